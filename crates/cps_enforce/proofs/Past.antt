@@ -9,7 +9,8 @@ use Rattle.cps_instance.specs.declared.task.Body.{Body}
 use Rattle.cps_instance.specs.Tasks.{HoldsTask, subjects_of}
 use Rattle.cps_instance.proofs.Agreeing.{AgreeAt, HoldsTask-agree}
 use Rattle.cps_trail.specs.Trail.{Entry, Trail, admits, IsFalseNow, IsWithin, IsAdmitted, IsSoundTrail}
-use Rattle.cps_trail.specs.Adds.{IsConflict}
+use Rattle.cps_propagate.specs.Conflicts.{IsConflictBy}
+use Rattle.cps_propagate.proofs.Speaking.{speaks_each}
 use Rattle.cps_trail.proofs.Falls.{bool_cases}
 use Rattle.cps_trail.proofs.Times.{IsFalseAfter-all}
 use Rattle.cps_propagate.specs.Notes.{DeniesPast}
@@ -36,12 +37,15 @@ nothing_in u h = omega (arith, h.1)
 abbrev Fills : Trail → List ℤ → ℕ → ℤ → Type 0
 Fills s xs i x = (admits s.first s.entries i x ≡ true) × (admits s.first s.entries i (value_at xs i) ≡ true → value_at xs i ≡ x)
 
-pub past_conflict : (s : Trail) (us : List Atom) (b : Body) (n : ℕ) (c : List Atom) → IsSoundTrail s → n ≡ length s.entries → DeniesPast s n (subjects_of (task_of us b)) [] c → IsTaskInForce s us b → IsImpossible b s → IsConflict (HoldsTask (task_of us b)) s c
+pub past_conflict : (s : Trail) (us : List Atom) (b : Body) (n : ℕ) (c : List Atom) → IsSoundTrail s → n ≡ length s.entries → DeniesPast s n (subjects_of (task_of us b)) [] c → IsTaskInForce s us b → IsImpossible b s → IsConflictBy (task_of us b) s c
 past_conflict s us b n c sound whole denies force none = record {
-  follows = record { at = λ xs w holds. elim (bool_cases (clause_holds c xs)) [ inl y ↦ y | inr f ↦ absurd (fails xs w holds f) ] };
-  false_now = All-weaker (Contains c) (IsFalseNow s)
-      (λ u has. elim (denies.false_then u has) [ inl old ↦ absurd (nothing_in u old) | inr f ↦ IsFalseAfter-all s.first s.entries n u f ]) c (All-contains_itself c);
-  subjects = denies.known (All-nil (λ u. u.subject < length s.first));
+  given = record {
+    follows = record { at = λ xs w holds. elim (bool_cases (clause_holds c xs)) [ inl y ↦ y | inr f ↦ absurd (fails xs w holds f) ] };
+    false_now = All-weaker (Contains c) (IsFalseNow s)
+        (λ u has. elim (denies.false_then u has) [ inl old ↦ absurd (nothing_in u old) | inr f ↦ IsFalseAfter-all s.first s.entries n u f ]) c (All-contains_itself c);
+    subjects = denies.known (All-nil (λ u. u.subject < length s.first));
+  };
+  speaks = speaks_each (subjects_of (task_of us b)) c (λ u has. elim (denies.about u has) [ inl old ↦ absurd (nothing_in u old) | inr own ↦ own ]);
 }
   where
     fill : (xs : List ℤ) (i : ℕ) → i < length s.first → (x : ℤ) × Fills s xs i x

@@ -1,22 +1,22 @@
 -- A task in force: what its body gives, what it fits, and what it is when it is settled.
-use Rattle.std.specs.Prelude.{not, All, map}
+use Rattle.std.specs.Prelude.{not, All, Contains, map}
 use Rattle.std.proofs.lemmas.List.{get_or_default}
-use Rattle.std.proofs.Common.{◌≡◌, ◌≢◌, ◌⊎◌, inl, inr, ℕ, ◌<◌, ℤ, pos, ◌++◌, arith, true, false, sym, ◌∙◌, List, [], ◌∷◌, length, take, get_or, subst}
+use Rattle.std.proofs.Common.{◌≡◌, ◌≢◌, ◌⊎◌, inl, inr, ℕ, ◌<◌, ℤ, pos, ◌++◌, arith, true, false, sym, ◌∙◌, List, [], ◌∷◌, length, take, drop, ◌+◌, get_or, subst}
 use Rattle.std.proofs.lemmas.Int.{ints}
 use Rattle.std.proofs.lemmas.List.Sums.{list_all-from_AllPass}
-use Rattle.std.proofs.lemmas.List.Elements.{All-nil, All-cons, All-head, All-tail, All-weaker}
+use Rattle.std.proofs.lemmas.List.Elements.{All-nil, All-cons, All-head, All-tail, All-weaker, All-take, All-drop}
 use Rattle.cps_literal.specs.declared.atom.Atom.{Atom}
 use Rattle.cps_literal.specs.declared.atom.Op.TheVariants.{Le}
 use Rattle.cps_literal.specs.Truth.{meets, value_at, atom_holds, Implies}
 use Rattle.cps_literal.proofs.Normalizing.{holds_too}
 use Rattle.cps_instance.specs.declared.task.Body.{Body}
 use Rattle.cps_instance.specs.Terms.{Domains, AreIntervals, domain_at}
-use Rattle.cps_instance.specs.Tasks.{HoldsTask, HoldsBody, atom_subjects, subjects_of_body}
+use Rattle.cps_instance.specs.Tasks.{HoldsTask, HoldsBody, atom_subjects, subjects_of, subjects_of_body}
 use Rattle.cps_instance.specs.Fitting.{IsLiteral, IsFitting}
 use Rattle.cps_instance.proofs.Agreeing.{All-append_left, All-append_right}
-use Rattle.cps_trail.specs.Notes.{IsReason}
+use Rattle.cps_instance.specs.declared.task.Task.{Task}
 use Rattle.cps_trail.specs.Trail.{Entry, Trail, Explains, first_entries, admits, IsInside, IsTrueNow, IsFalseNow, IsAdmitted}
-use Rattle.cps_trail.specs.Adds.{Grounds, Infers, IsForced, IsConflict}
+use Rattle.cps_trail.specs.Adds.{Grounds, Infers, IsForced}
 use Rattle.cps_trail.proofs.Laws.{admits-append}
 use Rattle.cps_trail.proofs.Inferring.{Infers-refl, same_midway, stays_true}
 use Rattle.cps_propagate.specs.Now.{IsFixedNow, IsOpenTo}
@@ -28,6 +28,10 @@ use Rattle.cps_rule.specs.Rules.{IsFittingRule, IsGiven, IsImpossible, AreFacts,
 use Rattle.cps_enforce.specs.Force.{AreNegatable, IsOpenAt, IsBarred, but}
 use Rattle.cps_enforce.specs.Reasons.{task_of, DeniesFacts, IsReasonFor}
 use Rattle.cps_enforce.specs.Settling.{IsTaskInForce, IsBlocked, IsRestingBody, IsBodySettled}
+use Rattle.cps_propagate.specs.Conflicts.{IsConflictBy}
+use Rattle.cps_propagate.specs.Notes.{IsReasonBy}
+use Rattle.cps_propagate.specs.Reasons.{SpeaksOf}
+use Rattle.cps_propagate.proofs.Speaking.{about_itself, speaks_left, speaks_right, speaks_append}
 use Rattle.cps_enforce.proofs.Denials.{conflict_denied, reason_denied}
 use Rattle.cps_enforce.proofs.Forces.{but_all, negation_given, false_not_true, fixed_true}
 
@@ -96,18 +100,28 @@ forced_given s us b t f g = record { at = λ xs a holds. g.at xs a (body_admitte
 pub given_false : (s : Trail) (b : Body) (t : Atom) → IsGiven b s t → IsFalseNow s t → IsImpossible b s
 given_false s b t g f = record { at = λ xs a holds. (let bad : true ≡ false = sym (g.at xs a holds) ∙ f (value_at xs t.subject) (a t.subject g.subject) in cc) }
 
+-- a task reads the subjects of its enforcement atoms, and those of its body
+speak : (us vs facts : List Atom) (b : Body) → SpeaksOf (atom_subjects us) vs → SpeaksOf (subjects_of_body b) facts → SpeaksOf (subjects_of (task_of us b)) (vs ++ facts)
+speak us vs facts b own about =
+    speaks_append (subjects_of (task_of us b)) vs facts (speaks_left (atom_subjects us) (subjects_of_body b) vs own) (speaks_right (atom_subjects us) (subjects_of_body b) facts about)
+
+but_speak : (us : List Atom) (place : ℕ) → SpeaksOf (atom_subjects us) (but us place)
+but_speak us place =
+    let P : Atom → Type 0 = λ u. Contains (atom_subjects us) u.subject in
+    speaks_append (atom_subjects us) (take place us) (drop (place + 1) us) (All-take P place us (about_itself us)) (All-drop P (place + 1) us (about_itself us))
+
 -- conflicts and reasons of a task by facts
-pub refuted_conflict : (s : Trail) (us facts c : List Atom) (b : Body) → DeniesFacts s (us ++ facts) [] c → IsRefuted b s facts → IsConflict (HoldsTask (task_of us b)) s c
-refuted_conflict s us facts c b denies refuted = conflict_denied (HoldsTask (task_of us b)) s (us ++ facts) c denies
+pub refuted_conflict : (s : Trail) (us facts c : List Atom) (b : Body) → DeniesFacts s (us ++ facts) [] c → IsRefuted b s facts → IsConflictBy (task_of us b) s c
+refuted_conflict s us facts c b denies refuted = conflict_denied (task_of us b) s (us ++ facts) c denies (speak us us facts b (about_itself us) refuted.speaks)
     (λ xs w holds all. refuted.excludes xs w (All-append_right (λ u. atom_holds xs u ≡ true) us facts all) (body_holds us b xs holds (All-append_left (λ u. atom_holds xs u ≡ true) us facts all)))
 
-pub explained_reason : (s : Trail) (us facts c : List Atom) (t : Atom) (b : Body) → DeniesFacts s (us ++ facts) [] c → t.subject < length s.first → IsExplained b s t facts → IsReasonFor (HoldsTask (task_of us b)) s t (c ++ t ∷ [])
-explained_reason s us facts c t b denies at explained = reason_denied (HoldsTask (task_of us b)) s (us ++ facts) c denies t at
+pub explained_reason : (s : Trail) (us facts c : List Atom) (t : Atom) (b : Body) → DeniesFacts s (us ++ facts) [] c → t.subject < length s.first → IsExplained b s t facts → IsReasonFor (task_of us b) s t (c ++ t ∷ [])
+explained_reason s us facts c t b denies at explained = reason_denied (task_of us b) s (us ++ facts) c denies (speak us us facts b (about_itself us) explained.speaks) t at
     (λ xs w holds all. explained.gives xs w (All-append_right (λ u. atom_holds xs u ≡ true) us facts all) (body_holds us b xs holds (All-append_left (λ u. atom_holds xs u ≡ true) us facts all)))
 
 module _ (s : Trail) (us : List Atom) (place : ℕ) (n : Atom) (b : Body) (inside : place < length us) (subject : n.subject ≡ (get_or us place no_atom).subject) (negated : (x : ℤ) → meets n.op n.value x ≡ not (meets (get_or us place no_atom).op (get_or us place no_atom).value x)) where
-  pub off_reason : (facts c : List Atom) (t : Atom) → DeniesFacts s (but us place ++ facts) [] c → t.subject < length s.first → Implies n t → IsRefuted b s facts → IsReasonFor (HoldsTask (task_of us b)) s t (c ++ t ∷ [])
-  off_reason facts c t denies at implies refuted = reason_denied (HoldsTask (task_of us b)) s (but us place ++ facts) c denies t at
+  pub off_reason : (facts c : List Atom) (t : Atom) → DeniesFacts s (but us place ++ facts) [] c → t.subject < length s.first → Implies n t → IsRefuted b s facts → IsReasonFor (task_of us b) s t (c ++ t ∷ [])
+  off_reason facts c t denies at implies refuted = reason_denied (task_of us b) s (but us place ++ facts) c denies (speak us (but us place) facts b (but_speak us place) refuted.speaks) t at
       (λ xs w holds all. holds_too n t xs implies (negation_given us place no_atom n xs inside subject negated (All-append_left (λ u. atom_holds xs u ≡ true) (but us place) facts all)
       (λ on. refuted.excludes xs w (All-append_right (λ u. atom_holds xs u ≡ true) (but us place) facts all) (holds on))))
 
@@ -173,8 +187,11 @@ settled_strong s us b (inr h) = record {
 }
 
 -- the reason of an atom before an entry is the entry's
-pub reason_at : (C : List ℤ → Type 0) (s : Trail) (k : ℕ) (u : Atom) (made reason : List Atom) → k < length s.entries → ((d : Entry) → (get_or s.entries k d).atom ≡ u) → reason ≡ made → IsReasonFor C (first_entries s k) u made → IsReason C s k reason
-reason_at C s k u made reason l is same r = subst (λ (c : List Atom). IsReason C s k c) (sym same) (record {
-  explains = λ d. subst (λ (t : Atom). Explains s.first (take k s.entries) made t) (sym (is d)) r.explained;
-  follows = r.follows;
+pub reason_at : (task : Task) (s : Trail) (k : ℕ) (u : Atom) (made reason : List Atom) → k < length s.entries → ((d : Entry) → (get_or s.entries k d).atom ≡ u) → reason ≡ made → IsReasonFor task (first_entries s k) u made → IsReasonBy task s k reason
+reason_at task s k u made reason l is same r = subst (λ (c : List Atom). IsReasonBy task s k c) (sym same) (record {
+  given = record {
+    explains = λ d. subst (λ (t : Atom). Explains s.first (take k s.entries) made t) (sym (is d)) r.explained;
+    follows = r.follows;
+  };
+  speaks = λ d. subst (λ (t : Atom). SpeaksOf (t.subject ∷ subjects_of task) made) (sym (is d)) r.speaks;
 })

@@ -70,12 +70,17 @@ impl<R: Rule> Enforced<R> {
 }
 
 impl<R: Rule> Propagator for Enforced<R> {
+    ghost use Rattle.cps_propagate.specs.Recalling.{no_memory};
+
     ghost task = { λ t. t };
+
+    ghost memory = { λ _. no_memory };
 
     fn propagate(
         &mut self,
         number: u32,
         store: &mut Store,
+        _standing: Option<usize>,
         conflict: &mut Vec<Atom>,
     ) -> Result<Answer, AllocError> {
         let header = Header {
@@ -127,6 +132,10 @@ impl<R: Rule> Propagator for Enforced<R> {
     fn is_cut(&self) -> bool {
         // Reading the rule gives the proof the invariant: the body is no cut and not of a cheap kind.
         let _ = &self.rule;
+        false
+    }
+
+    fn remembers(&self) -> bool {
         false
     }
 

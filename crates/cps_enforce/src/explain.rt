@@ -9,7 +9,8 @@
 ghost use Rattle.std.specs.Prelude.{◌≡◌, ◌<◌, true, Ok, OnOk, length};
 ghost use Rattle.cps_instance.specs.Tasks.{HoldsTask};
 ghost use Rattle.cps_instance.specs.Fitting.{IsFitting};
-ghost use Rattle.cps_trail.specs.Notes.{IsForcedAt, IsReason};
+ghost use Rattle.cps_trail.specs.Notes.{IsForcedAt};
+ghost use Rattle.cps_propagate.specs.Notes.{IsReasonBy};
 ghost use Rattle.cps_enforce.specs.Force.{IsOpenAt};
 ghost use Rattle.cps_enforce.specs.Reasons.{task_of, IsReasonFor};
 ghost use Rattle.cps_enforce.specs.Settling.{IsTaskInForce};
@@ -54,7 +55,7 @@ fn explain_given<R: Rule>(
     requires force { IsTaskInForce past.now enforcement.now (R.body rule.now) }
     requires subject { narrowing.now.target.subject < length past.now.first }
     ensures { result ≡ Ok true → IsReasonFor
-        (HoldsTask (task_of enforcement.now (R.body rule.now))) past.now narrowing.now.target draft.new.reason.items }
+        (task_of enforcement.now (R.body rule.now)) past.now narrowing.now.target draft.new.reason.items }
 {
     let target = narrowing.target;
     let is_explained = rule.explain(past, target, narrowing.hint, &mut draft.facts)?;
@@ -79,7 +80,7 @@ fn explain_off<R: Rule>(
     requires open { IsOpenAt past.now waiting.now.enforcement.now waiting.now.place }
     requires subject { narrowing.now.target.subject < length past.now.first }
     ensures { result ≡ Ok true → IsReasonFor
-        (HoldsTask (task_of waiting.now.enforcement.now (R.body rule.now)))
+        (task_of waiting.now.enforcement.now (R.body rule.now))
         past.now narrowing.now.target draft.new.reason.items }
 {
     let enforcement = waiting.enforcement;
@@ -110,7 +111,7 @@ fn explain_before<R: Rule>(
     requires fits { IsFitting past.now.first (task_of enforcement.now (R.body rule.now)) }
     requires subject { narrowing.now.target.subject < length past.now.first }
     ensures { result ≡ Ok true → IsReasonFor
-        (HoldsTask (task_of enforcement.now (R.body rule.now))) past.now narrowing.now.target draft.new.reason.items }
+        (task_of enforcement.now (R.body rule.now)) past.now narrowing.now.target draft.new.reason.items }
 {
     match force_of(past, enforcement) {
         Force::On => explain_given(past, enforcement, rule, narrowing, draft),
@@ -131,8 +132,8 @@ fn draft_entry<R: Rule>(
 ) -> Result<bool, AllocError>
     requires within { asked.now.entry < length asked.now.store.now.entries }
     requires fits { IsFitting asked.now.store.now.first (task_of enforcement.now (R.body rule.now)) }
-    ensures { result ≡ Ok true → IsReason
-        (HoldsTask (task_of enforcement.now (R.body rule.now)))
+    ensures { result ≡ Ok true → IsReasonBy
+        (task_of enforcement.now (R.body rule.now))
         asked.now.store.now asked.now.entry draft.new.reason.items }
 {
     let store = asked.store;
@@ -157,8 +158,8 @@ pub(crate) fn explain_by_rule<R: Rule>(
 ) -> Result<bool, AllocError>
     requires within { asked.now.entry < length asked.now.store.now.entries }
     requires fits { IsFitting asked.now.store.now.first (task_of enforcement.now (R.body rule.now)) }
-    ensures { result ≡ Ok true → IsReason
-        (HoldsTask (task_of enforcement.now (R.body rule.now))) asked.now.store.now asked.now.entry reason.new.items }
+    ensures { result ≡ Ok true → IsReasonBy
+        (task_of enforcement.now (R.body rule.now)) asked.now.store.now asked.now.entry reason.new.items }
 {
     let mut draft = Draft {
         facts: Vec::new(alloc),
@@ -186,8 +187,8 @@ pub(crate) fn explain_by_past<R: Rule>(
     requires fits { IsFitting asked.now.store.now.first (task_of enforcement.now (R.body rule.now)) }
     requires forced { IsForcedAt
         (HoldsTask (task_of enforcement.now (R.body rule.now))) asked.now.store.now asked.now.entry }
-    ensures { OnOk result (IsReason
-        (HoldsTask (task_of enforcement.now (R.body rule.now))) asked.now.store.now asked.now.entry reason.new.items) }
+    ensures { OnOk result (IsReasonBy
+        (task_of enforcement.now (R.body rule.now)) asked.now.store.now asked.now.entry reason.new.items) }
 {
     let mut subjects = Vec::new(alloc);
     push_all_subjects(enforcement, rule, &mut subjects)?;

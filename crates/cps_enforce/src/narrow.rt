@@ -8,14 +8,14 @@
 ghost use Rattle.std.specs.Prelude.{◌≡◌, All, OnOk, IfOk};
 ghost use Rattle.cps_instance.specs.Tasks.{HoldsTask};
 ghost use Rattle.cps_trail.specs.Trail.{IsTrueNow, IsFalseNow};
-ghost use Rattle.cps_trail.specs.Adds.{Infers, Answers, IsConflict};
+ghost use Rattle.cps_trail.specs.Adds.{Infers};
 ghost use Rattle.cps_trail.specs.Notes.{ByTask};
-ghost use Rattle.cps_propagate.specs.Conflicts.{as_step};
+ghost use Rattle.cps_propagate.specs.Conflicts.{IsConflictBy, AnswersBy, as_step};
 ghost use Rattle.cps_rule.specs.Rules.{IsGiven, IsImpossible};
 ghost use Rattle.cps_enforce.specs.Reasons.{task_of};
 ghost use Rattle.cps_enforce.specs.Settling.{IsTaskInForce, IsRestingBody};
 
-use crate::reasons::{conflict_by, deny_all, give_by, push_all_subjects};
+use crate::reasons::{conflict_by, deny_all, give_by, push_all_subjects, reads};
 use cps_domain::Cut;
 use cps_literal::Atom;
 use cps_propagate::Answer;
@@ -59,8 +59,8 @@ fn conflict_by_past<R: Rule>(
 ) -> Result<(), AllocError>
     requires force { IsTaskInForce store.now enforcement.now (R.body rule.now) }
     requires impossible { IsImpossible (R.body rule.now) store.now }
-    ensures { OnOk result (IsConflict
-        (HoldsTask (task_of enforcement.now (R.body rule.now))) store.now room.new.conflict.items) }
+    ensures { OnOk result (IsConflictBy
+        (task_of enforcement.now (R.body rule.now)) store.now room.new.conflict.items) }
 {
     room.subjects.clear();
     push_all_subjects(enforcement, rule, &mut room.subjects)?;
@@ -78,8 +78,8 @@ fn conflict_of<R: Rule>(
 ) -> Result<(), AllocError>
     requires force { IsTaskInForce store.now enforcement.now (R.body rule.now) }
     requires impossible { IsImpossible (R.body rule.now) store.now }
-    ensures { OnOk result (IsConflict
-        (HoldsTask (task_of enforcement.now (R.body rule.now))) store.now room.new.conflict.items) }
+    ensures { OnOk result (IsConflictBy
+        (task_of enforcement.now (R.body rule.now)) store.now room.new.conflict.items) }
 {
     let past = store.present();
     let is_refuted = rule.refute(&past, hint, &mut room.facts)?;
@@ -90,7 +90,8 @@ fn conflict_of<R: Rule>(
     conflict_by_past(enforcement, rule, room, store)
 }
 
-/// Makes the conflict of a body that gives an atom which is false.
+/// Makes the conflict of a body that gives an atom which is false. An atom about a subject that the task does not read
+/// may be given where the body cannot hold; then the conflict does not name it.
 fn contradict<R: Rule>(
     enforcement: &[Atom],
     rule: &R,
@@ -101,15 +102,18 @@ fn contradict<R: Rule>(
     requires force { IsTaskInForce store.now enforcement.now (R.body rule.now) }
     requires given { IsGiven (R.body rule.now) store.now narrowing.now.target }
     requires false_now { IsFalseNow store.now narrowing.now.target }
-    ensures { OnOk result (IsConflict
-        (HoldsTask (task_of enforcement.now (R.body rule.now))) store.now room.new.conflict.items) }
+    ensures { OnOk result (IsConflictBy
+        (task_of enforcement.now (R.body rule.now)) store.now room.new.conflict.items) }
 {
     let past = store.present();
     let target = narrowing.target;
     let is_explained = rule.explain(&past, target, narrowing.hint, &mut room.facts)?;
     if is_explained {
-        let facts = room.facts.as_slice();
-        return give_by(&past, enforcement, facts, target, &mut room.conflict);
+        let is_own = reads(enforcement, rule, target.subject, &mut room.subjects)?;
+        if is_own {
+            let facts = room.facts.as_slice();
+            return give_by(&past, enforcement, facts, target, &mut room.conflict);
+        }
     }
     conflict_by_past(enforcement, rule, room, store)
 }
@@ -127,8 +131,8 @@ fn narrow<R: Rule>(
     ensures infers { OnOk result (Infers
         (ByTask header.now.number (HoldsTask
         (task_of header.now.enforcement.now (R.body rule.now)))) store.old store.new) }
-    ensures answers { IfOk result (λ answer. Answers
-        (HoldsTask (task_of header.now.enforcement.now (R.body rule.now)))
+    ensures answers { IfOk result (λ answer. AnswersBy
+        (task_of header.now.enforcement.now (R.body rule.now))
         store.new (as_step answer room.new.conflict.items)) }
     ensures made { result ≡ Ok Answer.NoConflict → IsTrueNow store.new narrowing.now.target }
 {
@@ -158,8 +162,8 @@ fn narrow_all<R: Rule>(
     ensures infers { OnOk result (Infers
         (ByTask header.now.number (HoldsTask
         (task_of header.now.enforcement.now (R.body rule.now)))) store.old store.new) }
-    ensures answers { IfOk result (λ answer. Answers
-        (HoldsTask (task_of header.now.enforcement.now (R.body rule.now)))
+    ensures answers { IfOk result (λ answer. AnswersBy
+        (task_of header.now.enforcement.now (R.body rule.now))
         store.new (as_step answer room.new.conflict.items)) }
     ensures made { result ≡ Ok Answer.NoConflict → All (λ n. IsTrueNow store.new n.target) found.now }
 {
@@ -185,8 +189,8 @@ pub(crate) fn pass<R: Rule>(
     ensures infers { OnOk result (Infers
         (ByTask header.now.number (HoldsTask
         (task_of header.now.enforcement.now (R.body rule.old)))) store.old store.new) }
-    ensures answers { IfOk result (λ answer. Answers
-        (HoldsTask (task_of header.now.enforcement.now (R.body rule.old)))
+    ensures answers { IfOk result (λ answer. AnswersBy
+        (task_of header.now.enforcement.now (R.body rule.old))
         store.new (as_step answer room.new.conflict.items)) }
     ensures rest { result ≡ Ok Answer.NoConflict → store.new.entries ≡ store.old.entries
         → IsRestingBody (R.body rule.old) store.new }

@@ -1,14 +1,14 @@
 //! Reasons: the negations of facts that were true. A fact that each first value of its subject meets needs no place in
 //! a reason.
 
-ghost use Rattle.std.specs.Prelude.{◌≡◌, ◌<◌, ◌≤◌, ◌++◌, [], length, All, OnOk};
+ghost use Rattle.std.specs.Prelude.{◌≡◌, ◌<◌, ◌≤◌, ◌++◌, [], true, Ok, length, All, Contains, OnOk};
 ghost use Rattle.cps_instance.specs.declared.task.Body.{Body as BodyOf};
-ghost use Rattle.cps_instance.specs.Tasks.{HoldsTask, subjects_of};
+ghost use Rattle.cps_instance.specs.Tasks.{subjects_of};
+ghost use Rattle.cps_propagate.specs.Conflicts.{IsConflictBy};
 ghost use Rattle.cps_propagate.specs.Notes.{DeniesPast};
 ghost use Rattle.cps_rule.specs.Rules.{AreFacts, IsExplained, IsRefuted};
 ghost use Rattle.cps_enforce.specs.Force.{but};
 ghost use Rattle.cps_enforce.specs.Reasons.{DeniesFacts, IsReasonFor, task_of};
-ghost use Rattle.cps_trail.specs.Adds.{IsConflict};
 
 use cps_literal::Atom;
 use cps_propagate::{deny_past, push_atom_subjects};
@@ -55,7 +55,7 @@ pub(crate) fn conflict_by(
     requires enforcement { AreFacts past.now enforcement.now }
     requires facts { AreFacts past.now facts.now }
     ensures { OnOk result ((body : BodyOf) → IsRefuted body past.now facts.now
-        → IsConflict (HoldsTask (task_of enforcement.now body)) past.now reason.new.items) }
+        → IsConflictBy (task_of enforcement.now body) past.now reason.new.items) }
 {
     deny_both(past, enforcement, facts, reason)
 }
@@ -72,7 +72,7 @@ pub(crate) fn give_by(
     requires facts { AreFacts past.now facts.now }
     requires subject { target.subject < length past.now.first }
     ensures { OnOk result ((body : BodyOf) → IsExplained body past.now target facts.now
-        → IsReasonFor (HoldsTask (task_of enforcement.now body)) past.now target reason.new.items) }
+        → IsReasonFor (task_of enforcement.now body) past.now target reason.new.items) }
 {
     deny_both(past, enforcement, facts, reason)?;
     reason.push(target)?;
@@ -109,6 +109,20 @@ pub(crate) fn push_all_subjects<R: Rule>(
 {
     push_atom_subjects(enforcement, subjects)?;
     rule.push_subjects(subjects)
+}
+
+/// Whether a task reads a subject. The list is room for the subjects that it reads.
+pub(crate) fn reads<R: Rule>(
+    enforcement: &[Atom],
+    rule: &R,
+    subject: u32,
+    subjects: &mut Vec<u32>,
+) -> Result<bool, AllocError>
+    ensures { result ≡ Ok true → Contains (subjects_of (task_of enforcement.now (R.body rule.now))) subject }
+{
+    subjects.clear();
+    push_all_subjects(enforcement, rule, subjects)?;
+    Ok(subjects.contains(&subject))
 }
 
 /// Fills a list anew with the negation of each of the first `place` entries about some subjects.

@@ -3,9 +3,9 @@
 ghost use Rattle.std.specs.Prelude.{◌≡◌, OnOk, IfOk};
 ghost use Rattle.cps_instance.specs.Tasks.{HoldsTask};
 ghost use Rattle.cps_instance.specs.Fitting.{IsFitting};
-ghost use Rattle.cps_trail.specs.Adds.{Infers, Answers};
+ghost use Rattle.cps_trail.specs.Adds.{Infers};
 ghost use Rattle.cps_trail.specs.Notes.{ByTask};
-ghost use Rattle.cps_propagate.specs.Conflicts.{as_step};
+ghost use Rattle.cps_propagate.specs.Conflicts.{AnswersBy, as_step};
 ghost use Rattle.cps_enforce.specs.Force.{IsOpenAt};
 ghost use Rattle.cps_enforce.specs.Reasons.{task_of};
 ghost use Rattle.cps_enforce.specs.Settling.{IsTaskInForce, IsBlocked, IsRestingBody, IsBodySettled};
@@ -31,8 +31,8 @@ fn settle<R: Rule>(
     ensures infers { OnOk result (Infers
         (ByTask header.now.number (HoldsTask
         (task_of header.now.enforcement.now (R.body rule.old)))) store.old store.new) }
-    ensures answers { IfOk result (λ answer. Answers
-        (HoldsTask (task_of header.now.enforcement.now (R.body rule.old)))
+    ensures answers { IfOk result (λ answer. AnswersBy
+        (task_of header.now.enforcement.now (R.body rule.old))
         store.new (as_step answer room.new.conflict.items)) }
     ensures rest { result ≡ Ok Answer.NoConflict → IsRestingBody (R.body rule.old) store.new }
 {
@@ -98,8 +98,8 @@ pub(crate) fn visit<R: Rule>(
     ensures infers { OnOk result (Infers
         (ByTask header.now.number (HoldsTask
         (task_of header.now.enforcement.now (R.body rule.old)))) store.old store.new) }
-    ensures answers { IfOk result (λ answer. Answers
-        (HoldsTask (task_of header.now.enforcement.now (R.body rule.old)))
+    ensures answers { IfOk result (λ answer. AnswersBy
+        (task_of header.now.enforcement.now (R.body rule.old))
         store.new (as_step answer room.new.conflict.items)) }
     ensures settled { result ≡ Ok Answer.NoConflict
         → IsBodySettled store.new header.now.enforcement.now (R.body rule.old) }

@@ -12,11 +12,18 @@ use Rattle.cps_propagate.specs.declared.engine.Traced.TheVariants.{Settled}
 use Rattle.cps_propagate.specs.Agenda.{Agenda}
 use Rattle.cps_propagate.specs.Conflicts.{as_traced}
 use Rattle.cps_propagate.specs.Readers.{BySide}
+use Rattle.cps_propagate.specs.Recalling.{Memory, Seen, Recall}
 use Rattle.cps_propagate.specs.Wiring.{IsPlanned}
 use Rattle.cps_propagate.proofs.Planning.{lowered_whole, map-push}
 
-abbrev pub agenda : List Task → Bool → Agenda
-agenda tasks refused = record { tasks = tasks; refused = refused }
+abbrev pub agenda : List Task → Recall → Bool → Agenda
+agenda tasks recall refused = record { tasks = tasks; recall = recall; refused = refused }
+
+abbrev pub recall_of : {X : Type 0} → (X → Memory) → List X → Seen → Recall
+recall_of memory list seen = record { memories = map memory list; seen = seen }
+
+pub same_recall : (a b : Recall) → a.memories ≡ b.memories → a.seen ≡ b.seen → a ≡ b
+same_recall a b e f = ap (λ (ms : List Memory). let r : Recall = record { memories = ms; seen = a.seen } in r) e ∙ ap (λ (seen : Seen). let r : Recall = record { memories = b.memories; seen = seen } in r) f
 
 -- an engine that was refused memory stands by no plan
 pub no_plan : (P : Type 0) → true ≡ false → P
@@ -26,38 +33,39 @@ pub on_err : {A E : Type 0} (r : Result A E) (P : Type 0) → P → OnErr r P
 on_err (Ok x) P h = tt
 on_err (Err e) P h = h
 
-module _ {X : Type 0} (f : X → Task) (old : Agenda) (refused : Bool) (before after : List X) (was : agenda (map f before) refused ≡ old) where
+module _ {X : Type 0} (f : X → Task) (old : Agenda) (was_recall recall : Recall) (refused : Bool) (before after : List X) (was : agenda (map f before) was_recall refused ≡ old) where
   -- the tasks are those of before, and memory was refused
-  pub refused_now : map f after ≡ map f before → agenda (map f after) true ≡ agenda old.tasks true
-  refused_now same = ap (λ (ts : List Task). agenda ts true) same ∙ ap (λ (a : Agenda). agenda a.tasks true) was
+  pub refused_now : map f after ≡ map f before → agenda (map f after) recall true ≡ agenda old.tasks recall true
+  refused_now same = ap (λ (ts : List Task). agenda ts recall true) same ∙ ap (λ (a : Agenda). agenda a.tasks recall true) was
 
-  -- nothing is other than before
-  pub as_before : map f after ≡ map f before → refused ≡ false → agenda (map f after) false ≡ old
-  as_before same not = ap (λ (ts : List Task). agenda ts false) same ∙ ap (λ (b : Bool). agenda (map f before) b) (sym not) ∙ was
+  -- the tasks are those of before, and memory was not refused
+  pub as_before : map f after ≡ map f before → refused ≡ false → agenda (map f after) recall false ≡ agenda old.tasks recall old.refused
+  as_before same not = ap (λ (ts : List Task). agenda ts recall false) same ∙ ap (λ (b : Bool). agenda (map f before) recall b) (sym not) ∙ ap (λ (a : Agenda). agenda a.tasks recall a.refused) was
 
   -- one more task
-  pub added : (x : X) → map f after ≡ map f before ++ f x ∷ [] → refused ≡ false → agenda (map f after) false ≡ agenda (old.tasks ++ f x ∷ []) old.refused
+  pub added : (x : X) → map f after ≡ map f before ++ f x ∷ [] → refused ≡ false → agenda (map f after) recall false ≡ agenda (old.tasks ++ f x ∷ []) recall old.refused
   added x more not =
-      ap (λ (ts : List Task). agenda ts false) more ∙ ap (λ (b : Bool). agenda (map f before ++ f x ∷ []) b) (sym not) ∙ ap (λ (a : Agenda). agenda (a.tasks ++ f x ∷ []) a.refused) was
+      ap (λ (ts : List Task). agenda ts recall false) more ∙ ap (λ (b : Bool). agenda (map f before ++ f x ∷ []) recall b) (sym not) ∙ ap (λ (a : Agenda). agenda (a.tasks ++ f x ∷ []) recall a.refused) was
 
-  -- the number of propagators
-  pub few_before : length old.tasks + 1 < 2 ^ 32 → (n : ℕ) → n ≡ length before → n + 1 < 2 ^ 32
-  few_before few n is = omega (arith, few, is, length-map before f, ap (λ (a : Agenda). length a.tasks) was)
+-- the number of propagators
+pub few_before : {X : Type 0} (f : X → Task) (old : Agenda) (before : List X) → map f before ≡ old.tasks → length old.tasks + 1 < 2 ^ 32 → (n : ℕ) → n ≡ length before → n + 1 < 2 ^ 32
+few_before f old before was few n is = omega (arith, few, is, length-map before f, ap (λ (ts : List Task). length ts) was)
 
 -- an engine to which a task is added has the tasks of one propagator more
-pub one_added : {X : Type 0} (f : X → Task) (old new : Agenda) (xs : List X) (x : X) → old ≡ agenda (map f xs) false → new ≡ agenda (old.tasks ++ f x ∷ []) old.refused → new ≡ agenda (map f (xs ++ x ∷ [])) false
+pub one_added : {X : Type 0} (f : X → Task) (old new : Agenda) (xs : List X) (x : X) → old.tasks ≡ map f xs → new ≡ agenda (old.tasks ++ f x ∷ []) new.recall old.refused → new.tasks ≡ map f (xs ++ x ∷ [])
 one_added f old new xs x was more =
-    more ∙ ap (λ (a : Agenda). agenda (a.tasks ++ f x ∷ []) a.refused) was ∙ ap (λ (ts : List Task). agenda ts false) (sym (map-push f xs xs (xs ++ x ∷ []) x refl refl))
+    ap (λ (a : Agenda). a.tasks) more ∙ ap (λ (ts : List Task). ts ++ f x ∷ []) was ∙ sym (map-push f xs xs (xs ++ x ∷ []) x refl refl)
 
 -- lists of one length
 pub same_count : {X : Type 0} (f : X → Task) (xs ys : List X) (n : ℕ) → map f ys ≡ map f xs → n ≡ length xs → n ≡ length ys
 same_count f xs ys n keeps is = omega (arith, is, ap (λ (ts : List Task). length ts) keeps, length-map ys f, length-map xs f)
 
 -- the end of each task has fallen
-pub lowered_agenda : (upper : ℤ) (tasks tasks' : List Task) (i : ℕ) (refused refused' : Bool) → tasks' ≡ map (lowered upper) (take i tasks) ++ drop i tasks → length tasks ≤ i → refused' ≡ refused
-    → agenda tasks' refused' ≡ agenda (map (lowered upper) tasks) refused
-lowered_agenda upper tasks tasks' i refused refused' e l same =
-    ap (λ (ts : List Task). agenda ts refused') (lowered_whole upper tasks tasks' i e l) ∙ ap (λ (b : Bool). agenda (map (lowered upper) tasks) b) same
+pub lowered_agenda : (upper : ℤ) (tasks tasks' : List Task) (i : ℕ) (recall recall' : Recall) (refused refused' : Bool) → tasks' ≡ map (lowered upper) (take i tasks) ++ drop i tasks → length tasks ≤ i → recall' ≡ recall → refused' ≡ refused
+    → agenda tasks' recall' refused' ≡ agenda (map (lowered upper) tasks) recall refused
+lowered_agenda upper tasks tasks' i recall recall' refused refused' e l r same =
+    ap (λ (ts : List Task). agenda ts recall' refused') (lowered_whole upper tasks tasks' i e l) ∙ ap (λ (b : Bool). agenda (map (lowered upper) tasks) recall' b) same
+    ∙ ap (λ (m : Recall). agenda (map (lowered upper) tasks) m refused) r
 
 -- what is planned for tasks is so whichever of them wait
 pub planned_again : (tasks tasks' : List Task) (readers : BySide) (cuts : List ℕ) (waits waits' : List Bool) → tasks' ≡ tasks → length waits' ≡ length waits → IsPlanned tasks readers cuts waits → IsPlanned tasks' readers cuts waits'

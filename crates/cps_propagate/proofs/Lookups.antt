@@ -4,12 +4,18 @@ use Rattle.std.proofs.Common.{ℕ, ℤ, List, get_or, sym, ◌∙◌, inl, inr}
 use Rattle.std.specs.List.{All}
 use Rattle.std.proofs.lemmas.List.Elements.{All-get_or}
 use Rattle.cps_trail.specs.Trail.{Trail}
-use Rattle.cps_propagate.specs.Now.{IsFixedNow, IsSameAt}
-use Rattle.cps_propagate.specs.Lookups.{MayBeSame, IsOpenPlace, MayBeElement, IsValueAtPlace, IsStrongElement, MissesRows, IsSurelyListed}
+use Rattle.cps_propagate.specs.Now.{IsFixedNow, IsEndNow, IsSameAt}
+use Rattle.cps_propagate.specs.Lookups.{MayBeSame, IsOpenPlace, MayBeElement, IsValueAtPlace, IsStrongElement, cell, IsOpenRowAt, HasOpenRows, MissesRows, IsSurelyListed}
 
 module _ (s u : Trail) where
   fixed_back : (i : ℕ) → IsSameAt s u i → IsFixedNow u i → IsFixedNow s i
   fixed_back i same f = λ x y p q. f x y (sym (same x) ∙ p) (sym (same y) ∙ q)
+
+  pub end_now : (i : ℕ) (v : ℤ) → IsSameAt s u i → IsEndNow s i v → IsEndNow u i v
+  end_now i v same h = record {
+    reached = sym (same v) ∙ h.reached;
+    last = elim h.last [ inl low ↦ inl (λ x o. low x (same x ∙ o)) | inr high ↦ inr (λ x o. high x (same x ∙ o)) ];
+  }
 
   may_same : (i j : ℕ) → IsSameAt s u i → IsSameAt s u j → MayBeSame s i j → MayBeSame u i j
   may_same i j a b h =
@@ -77,4 +83,18 @@ module _ (s u : Trail) (exprs : List ℕ) (values : List ℤ) (same : All (IsSam
     row = h.row;
     within = h.within;
     sure = λ k l x o. h.sure k l x (All-get_or (IsSameAt s u) exprs k 0 l same x ∙ o);
+  }
+
+  pub open_row_at_same : (row : ℕ) → IsOpenRowAt s exprs values row → IsOpenRowAt u exprs values row
+  open_row_at_same row h = record {
+    within = h.within;
+    possible = λ k l. sym (All-get_or (IsSameAt s u) exprs k 0 l same (cell exprs values row k)) ∙ h.possible k l;
+  }
+
+  pub open_rows_same : HasOpenRows s exprs values → HasOpenRows u exprs values
+  open_rows_same h = record {
+    some = (let r = h.some in (r.0, open_row_at_same r.0 r.1));
+    ends = λ k v l last.
+        (let r = h.ends k v l (end_now u s (get_or exprs k 0) v (λ x. sym (All-get_or (IsSameAt s u) exprs k 0 l same x)) last) in
+        (r.0, open_row_at_same r.0 r.1, r.2));
   }

@@ -1,6 +1,6 @@
--- What rest asks of greatest values, products and quotients: what bounds leave to the target and to the members agrees,
--- end by end.
-use Rattle.std.specs.Prelude.{◌≡◌, ◌≢◌, ℕ, ◌<◌, ℤ, pos, ◌*ℤ◌, ◌≤ℤ◌, ◌<ℤ◌, int_div, List, [], ◌∷◌, length, slice_index_or, All}
+-- What rest asks of greatest values, products, quotients and remainders: what bounds leave to the target and to the
+-- members agrees, end by end.
+use Rattle.std.specs.Prelude.{◌≡◌, ◌≢◌, ◌⊎◌, ℕ, ◌<◌, ℤ, pos, neg_ℤ, ◌+ℤ◌, ◌*ℤ◌, ◌≤ℤ◌, ◌<ℤ◌, int_div, List, [], ◌∷◌, length, slice_index_or, All}
 use Rattle.std.specs.List.{AllZip}
 use Rattle.cps_model.specs.Arithmetic.{product}
 use Rattle.cps_trail.specs.Trail.{Trail}
@@ -56,7 +56,7 @@ pub record MayMultiply (are_factors : List ℤ → Type 0) (is_target : ℤ → 
   pub low : (ns : List ℤ) × (x : ℤ) × are_factors ns × is_target x × (product ns ≤ℤ x)
   pub high : (ns : List ℤ) × (x : ℤ) × are_factors ns × is_target x × (x ≤ℤ product ns)
 
--- a number, a divisor and a value of the target
+-- a number, a divisor and a value of the target, which is a quotient or what is left
 pub record IsDivision (is_number is_divisor is_target : ℤ → Type 0) : Type 0 where
   pub n : ℤ
   pub d : ℤ
@@ -73,10 +73,47 @@ pub record MayDivide (is_number is_divisor is_target : ℤ → Type 0) : Type 0 
   pub at_least : high.x ≤ℤ int_div high.n high.d
   pub one_sign : pos 0 <ℤ (low.d *ℤ high.d)
 
+-- of a number that is not negative something is left by a positive divisor
+pub record IsUnsigned (n d x : ℤ) : Type 0 where
+  pub number : pos 0 ≤ℤ n
+  pub divisor : pos 1 ≤ℤ d
+  pub target : pos 0 ≤ℤ x
+
+-- By one quotient, some divisor's multiple with what is left is at most a number, and some is at least one. What is left
+-- is less than the divisor of the second.
+pub record MayLeaveUnsigned (is_number is_divisor is_target : ℤ → Type 0) : Type 0 where
+  pub quotient : ℤ
+  pub low : IsDivision is_number is_divisor is_target
+  pub low_unsigned : IsUnsigned low.n low.d low.x
+  pub at_most : ((quotient *ℤ low.d) +ℤ low.x) ≤ℤ low.n
+  pub high : IsDivision is_number is_divisor is_target
+  pub high_unsigned : IsUnsigned high.n high.d high.x
+  pub at_least : high.n ≤ℤ ((quotient *ℤ high.d) +ℤ high.x)
+  pub low_less : low.x <ℤ high.d
+  pub high_less : high.x <ℤ high.d
+
+-- what is asked of a number is asked of its opposite
+abbrev pub IsOpposite : (ℤ → Type 0) → ℤ → Type 0
+IsOpposite is x = is (neg_ℤ x)
+
+-- What is left has the sign of what was divided, or is 0, and the divisor's sign does not matter.
+abbrev pub MayLeaveBy : (ℤ → Type 0) → (ℤ → Type 0) → (ℤ → Type 0) → Type 0
+MayLeaveBy is_number is_divisor is_target =
+    MayLeaveUnsigned is_number is_divisor is_target
+    ⊎ MayLeaveUnsigned (IsOpposite is_number) is_divisor (IsOpposite is_target)
+
+abbrev pub MayLeave : (ℤ → Type 0) → (ℤ → Type 0) → (ℤ → Type 0) → Type 0
+MayLeave is_number is_divisor is_target =
+    MayLeaveBy is_number is_divisor is_target ⊎ MayLeaveBy is_number (IsOpposite is_divisor) is_target
+
 abbrev pub MayMultiplyIn : ℕ → List ℕ → Ranges → Type 0
 MayMultiplyIn target exprs may = MayMultiply (AllZip may exprs) (may target)
 
--- a quotient is of two members
+-- a quotient is of two members, and so is a remainder
 abbrev pub MayDivideIn : ℕ → List ℕ → Ranges → Type 0
 MayDivideIn target (n ∷ d ∷ []) may = MayDivide (may n) (may d) (may target)
 MayDivideIn target exprs may = ⊥
+
+abbrev pub MayLeaveIn : ℕ → List ℕ → Ranges → Type 0
+MayLeaveIn target (n ∷ d ∷ []) may = MayLeave (may n) (may d) (may target)
+MayLeaveIn target exprs may = ⊥

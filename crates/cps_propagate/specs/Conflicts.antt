@@ -2,7 +2,7 @@
 use Rattle.std.specs.Prelude.{ℕ, ◌<◌, List, length, slice_index_or, ⊤}
 use Rattle.cps_literal.specs.declared.atom.Atom.{Atom}
 use Rattle.cps_instance.specs.declared.task.Task.{Task}
-use Rattle.cps_instance.specs.Tasks.{HoldsTask}
+use Rattle.cps_instance.specs.Tasks.{HoldsTask, subjects_of}
 use Rattle.cps_trail.specs.Trail.{Trail}
 use Rattle.cps_trail.specs.Adds.{IsConflict}
 use Rattle.cps_trail.specs.declared.step.Step.{Step}
@@ -11,16 +11,28 @@ use Rattle.cps_propagate.specs.declared.propagator.Answer.{Answer}
 use Rattle.cps_propagate.specs.declared.propagator.Answer.TheVariants as answers
 use Rattle.cps_propagate.specs.declared.engine.Traced.{Traced}
 use Rattle.cps_propagate.specs.declared.engine.Traced.TheVariants as traces
+use Rattle.cps_propagate.specs.Reasons.{SpeaksOf}
 
 -- an answer with the clause that was left
 abbrev pub as_step : Answer → List Atom → Step
 as_step answers.NoConflict clause = Settled
 as_step answers.Conflict clause = Conflict clause
 
--- the task with a number gives a conflict by itself
+-- a task gives a conflict, which speaks of what the task reads
+pub record IsConflictBy (t : Task) (s : Trail) (clause : List Atom) : Type 0 where
+  pub given : IsConflict (HoldsTask t) s clause
+  pub speaks : SpeaksOf (subjects_of t) clause
+
+-- what a task answers: it gives the conflict, if there is one
+abbrev pub AnswersBy : Task → Trail → Step → Type 0
+AnswersBy t s Settled = ⊤
+AnswersBy t s (Conflict clause) = IsConflictBy t s clause
+
+-- the task with a number gives a conflict by itself, which speaks of what the task reads
 pub record IsConflictOf (tasks : List Task) (number : ℕ) (s : Trail) (clause : List Atom) : Type 0 where
   pub within : number < length tasks
   pub given : (d : Task) → IsConflict (HoldsTask (slice_index_or tasks number d)) s clause
+  pub speaks : (d : Task) → SpeaksOf (subjects_of (slice_index_or tasks number d)) clause
 
 -- one of the tasks does
 pub record IsConflictOfTask (tasks : List Task) (s : Trail) (clause : List Atom) : Type 0 where

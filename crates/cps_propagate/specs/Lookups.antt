@@ -2,7 +2,7 @@
 use Rattle.std.specs.Prelude.{◌≡◌, ◌≢◌, ◌⊎◌, ℕ, ◌+◌, ◌*◌, ◌≤◌, ◌<◌, ℤ, pos, ◌≤ℤ◌, List, length, slice_index_or}
 use Rattle.cps_model.specs.Lookups.{row_at}
 use Rattle.cps_trail.specs.Trail.{Trail}
-use Rattle.cps_propagate.specs.Now.{IsOpenTo, IsFixedNow}
+use Rattle.cps_propagate.specs.Now.{IsOpenTo, IsEndNow, IsFixedNow}
 
 -- Two subjects may have one value, as far as their ends tell: neither lies above the other, and where one of them has
 -- a single value left, the other may have it.
@@ -47,18 +47,29 @@ pub record IsStrongElement (s : Trail) (index target : ℕ) (exprs : List ℕ) :
 abbrev pub cell : List ℕ → List ℤ → ℕ → ℕ → ℤ
 cell exprs values row k = slice_index_or (row_at (length exprs) values row) k (pos 0)
 
+-- a row of a table that each of its columns may have now
+pub record IsOpenRowAt (s : Trail) (exprs : List ℕ) (values : List ℤ) (row : ℕ) : Type 0 where
+  pub within : (row + 1) * length exprs ≤ length values
+  pub possible : (k : ℕ) → k < length exprs → IsOpenTo s (slice_index_or exprs k 0) (cell exprs values row k)
+
+-- There is such a row, and in such rows stand the least and the greatest value of each column.
+pub record HasOpenRows (s : Trail) (exprs : List ℕ) (values : List ℤ) : Type 0 where
+  pub some : (row : ℕ) × IsOpenRowAt s exprs values row
+  pub ends : (k : ℕ) (v : ℤ) → k < length exprs → IsEndNow s (slice_index_or exprs k 0) v
+      → (row : ℕ) × IsOpenRowAt s exprs values row × (cell exprs values row k ≡ v)
+
 -- a column has a row's value and no other
 abbrev pub IsSureAt : Trail → List ℕ → List ℤ → ℕ → ℕ → Type 0
 IsSureAt s exprs values row k =
     (x : ℤ) → IsOpenTo s (slice_index_or exprs k 0) x → x ≡ cell exprs values row k
 
--- where all columns but one surely have a row's values, that one does not have its
+-- where all columns but one surely have a row's values, the row's value is not open to that one
 abbrev pub IsRowMissed : Trail → List ℕ → List ℤ → ℕ → Type 0
 IsRowMissed s exprs values row = (c : ℕ) → c < length exprs
     → ((k : ℕ) → k < length exprs → k ≢ c → IsSureAt s exprs values row k)
     → IsOpenTo s (slice_index_or exprs c 0) (cell exprs values row c) → ⊥
 
--- so it is of each row that is to be missed
+-- so each row of a negated table is missed
 pub record MissesRows (s : Trail) (exprs : List ℕ) (values : List ℤ) : Type 0 where
   pub missed : (row : ℕ) → (row + 1) * length exprs ≤ length values → IsRowMissed s exprs values row
 

@@ -1,9 +1,10 @@
 -- The tried sums fit their store, and stay in step with it.
 use Rattle.std.specs.Prelude.{IsTrue, unsigned_abs, ◌*◌}
-use Rattle.std.proofs.Common.{◌≡◌, ◌∙◌, ℕ, zero, suc, ◌+◌, ◌<◌, ◌≤◌, ℤ, pos, ◌≤ℤ◌, true, arith, rules, List, [], ◌∷◌, ◌++◌, length, ap, subst, sym, lit<, refl}
+use Rattle.std.proofs.Common.{◌≡◌, ◌∙◌, ℕ, zero, suc, ◌+◌, ◌<◌, ◌≤◌, ℤ, pos, ◌≤ℤ◌, true, arith, rules, List, [], ◌∷◌, ◌++◌, length, take, get_or, ap, subst, sym, lit<, refl}
 use Rattle.std.specs.List.{All}
 use Rattle.std.proofs.Math.Nat.{mul-le-mul}
 use Rattle.std.proofs.lemmas.Int.{ints}
+use Rattle.std.proofs.lemmas.List.{take-append-le}
 use Rattle.std.proofs.lemmas.List.Elements.{All-append, All-map, All-head, All-tail, All-nil, All-cons}
 use Rattle.cps_model.specs.Within.{is_well_shaped}
 use Rattle.cps_domain.specs.Window.{is_among}
@@ -17,6 +18,8 @@ use Rattle.cps_instance.specs.Problem.{sum_task}
 use Rattle.cps_trail.specs.Trail.{Trail, Entry, IsSoundTrail}
 use Rattle.cps_trail.specs.Adds.{Grounds, Infers}
 use Rattle.cps_propagate.specs.Laws.{IsTaskAtRest, IsInStep}
+use Rattle.cps_propagate.specs.Recalling.{Recall, AllRecall}
+use Rattle.cps_propagate.proofs.Remembering.{Recalls-same}
 use Rattle.cps_propagate.proofs.Stepping.{IsInStep-first, IsInStep-decided}
 use Rattle.cps_propagation_tests.specs.Bits.{bit, IsBit}
 use Rattle.cps_propagation_tests.specs.Sums.{idle_task, up_to_ten, five_domains, sum_domains, tripled_sum, IsSmallTerm, AreSmallTerms, linear_task, cut_task}
@@ -96,6 +99,13 @@ sum_fits first tasks e f = subst (λ (us : List Task). All (IsFitting first) us)
 pub decided_step : (C : Grounds) (tasks : List Task) (r s t : Trail) (e : Entry) (from : ℕ) → r.level ≡ 0 → Infers C r s → All (λ u. IsTaskAtRest u s) tasks → IsSoundTrail s → e.level ≡ s.level + 1 → t ≡ record s { entries = s.entries ++ e ∷ []; level = s.level + 1 } → from ≡ length s.entries → IsInStep tasks t from
 decided_step C tasks r s t e from none run rest sound at is here = subst (λ n. IsInStep tasks t n) (sym here)
     (IsInStep-decided tasks s t e sound (ap (λ (u : Trail). u.first) is) (ap (λ (u : Trail). u.level) is) at (ap (λ (u : Trail). u.entries) is) (IsInStep-first tasks s (run.level ∙ none) rest))
+
+-- what is remembered of entries is so where one more was decided
+pub decided_recalls : (r : Recall) (s t : Trail) (e : Entry) (from : ℕ) → ((n : ℕ) → AllRecall r s n) → t.first ≡ s.first → t.entries ≡ s.entries ++ e ∷ [] → from ≡ length s.entries → AllRecall r t from
+decided_recalls r s t e from h first more here number k d l small stand =
+    Recalls-same (get_or r.memories number d) s t k first
+    (λ j b. ap (λ (es : List Entry). take j es) more ∙ take-append-le j s.entries (e ∷ []) (omega (arith, b, small, here)))
+    (h from number k d l small stand)
 
 one_fits : (upper : ℤ) → IsFitting five_domains (cut_task upper)
 one_fits upper = record {

@@ -34,13 +34,17 @@ struct Idle;
 impl Propagator for Idle {
     ghost use Rattle.std.specs.Prelude.{[]};
     ghost use Rattle.cps_instance.specs.declared.task.Body.TheVariants.{Empty};
+    ghost use Rattle.cps_propagate.specs.Recalling.{no_memory};
 
     ghost task = { λ _. record { enforcement = []; body = Empty } };
+
+    ghost memory = { λ _. no_memory };
 
     fn propagate(
         &mut self,
         _number: u32,
         _store: &mut Store,
+        _standing: Option<usize>,
         _conflict: &mut Vec<Atom>,
     ) -> Result<Answer, AllocError> {
         Ok(Answer::NoConflict)
@@ -67,6 +71,10 @@ impl Propagator for Idle {
     }
 
     fn is_cut(&self) -> bool {
+        false
+    }
+
+    fn remembers(&self) -> bool {
         false
     }
 

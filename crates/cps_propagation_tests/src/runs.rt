@@ -40,7 +40,7 @@ pub fn run<P: Propagator>(
     ensures notes { OnOk result (AreNotesOf 7 (P.task propagator.old) store.new) }
 {
     let mut conflict = Vec::new(alloc);
-    match propagator.propagate(7, store, &mut conflict)? {
+    match propagator.propagate(7, store, None, &mut conflict)? {
         Answer::NoConflict => {
             let reason = last_reason(alloc, propagator, store)?;
             Ok((true, reason))

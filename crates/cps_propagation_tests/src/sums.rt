@@ -79,7 +79,7 @@ fn linear(
     requires enforcement { All (IsBit 3 5) enforcement.now }
     requires terms { AreSmallTerms terms.now }
     requires bounds { IsTrue (is_well_shaped bounds.now) }
-    ensures { IfOk result (λ linear. IsFitting five_domains linear) }
+    ensures { IfOk result (λ linear. IsFitting five_domains linear.task) }
 {
     let body = Body::Linear {
         terms: Listed::from_vec(Vec::from_slice(alloc, terms)?),
@@ -99,7 +99,7 @@ fn ran(
     linear: &mut Linear,
     decisions: &[Atom],
 ) -> Result<(bool, Vec<Atom>), AllocError>
-    requires { IsFitting five_domains linear.old }
+    requires { IsFitting five_domains linear.old.task }
 {
     let mut store = five(alloc)?;
     decide_all(&mut store, decisions)?;
@@ -214,7 +214,7 @@ fn sums_are_refused(rt: HostRuntime) {
 
 /// The propagator of the cut of the first at most 3.
 fn cut(alloc: Global) -> Result<Linear, AllocError>
-    ensures { IfOk result (λ linear. linear ≡ cut_task (pos 3)) }
+    ensures { IfOk result (λ linear. linear.task ≡ cut_task (pos 3)) }
 {
     let task = Task {
         enforcement: Listed::new(alloc),
@@ -233,7 +233,7 @@ fn run_twice(
     linear: &mut Linear,
     upper: i64,
 ) -> Result<(bool, Vec<Atom>), AllocError>
-    requires { linear.old ≡ cut_task (pos 3) }
+    requires { linear.old.task ≡ cut_task (pos 3) }
 {
     let mut store = five(alloc)?;
     let (is_settled, _) = run(alloc, linear, &mut store)?;

@@ -8,6 +8,7 @@ use Rattle.cps_instance.specs.Fitting.{IsFittingBody}
 use Rattle.cps_instance.specs.Tasks.{HoldsBody, subjects_of_body}
 use Rattle.cps_trail.specs.Trail.{Trail, IsTrueNow, IsWithin, IsAdmitted, IsInside}
 use Rattle.cps_propagate.specs.Now.{IsFixedNow, AreOpen}
+use Rattle.cps_propagate.specs.Reasons.{SpeaksOf}
 use Rattle.cps_propagate.specs.Strength.{IsStrongBody, IsExcludedBody}
 use Rattle.cps_rule.specs.declared.rule.Look.{Look}
 use Rattle.cps_rule.specs.declared.rule.Look.TheVariants.{Possible, Impossible}
@@ -51,12 +52,14 @@ AreFacts s us = All (IsFact s) us
 abbrev pub AllTrueAt : List ℤ → List Atom → Type 0
 AllTrueAt xs us = All (λ u. atom_holds xs u ≡ true) us
 
--- a body and facts of the store give an atom, within the first domains
+-- a body and facts of the store about its subjects give an atom, within the first domains
 pub record IsExplained (body : Body) (s : Trail) (target : Atom) (us : List Atom) : Type 0 where
   pub facts : AreFacts s us
+  pub speaks : SpeaksOf (subjects_of_body body) us
   pub gives : (xs : List ℤ) → IsWithin s.first xs → AllTrueAt xs us → HoldsBody body xs → atom_holds xs target ≡ true
 
--- a body cannot hold beside facts of the store, within the first domains
+-- a body cannot hold beside facts of the store about its subjects, within the first domains
 pub record IsRefuted (body : Body) (s : Trail) (us : List Atom) : Type 0 where
   pub facts : AreFacts s us
+  pub speaks : SpeaksOf (subjects_of_body body) us
   pub excludes : (xs : List ℤ) → IsWithin s.first xs → AllTrueAt xs us → HoldsBody body xs → ⊥

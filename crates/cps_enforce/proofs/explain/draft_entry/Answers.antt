@@ -18,7 +18,7 @@ explain_before-requires-clause-subject g c =
 
 pub returns : goal.returns
 returns g c = λ ok.
-    let C = HoldsTask (task_of c.args.enforcement.now (g.R.Rule.body c.args.rule.now)) in
+    let t = task_of c.args.enforcement.now (g.R.Rule.body c.args.rule.now) in
     let u = (get_or c.entries.result.now c.args.asked.now.entry none_view).atom in
-    reason_at C c.args.asked.now.store.now c.args.asked.now.entry u c.explain_before.new.draft.reason.items c.explain_before.new.draft.reason.items c.requires.within (read c.args.asked.now.store.now.entries c.entries.result.now c.args.asked.now.entry c.entries.ensures.views c.requires.within) refl
-    (subst (λ (s : Trail). IsReasonFor C s u c.explain_before.new.draft.reason.items) c.before-past.ensures (c.explain_before.ensures ok))
+    reason_at t c.args.asked.now.store.now c.args.asked.now.entry u c.explain_before.new.draft.reason.items c.explain_before.new.draft.reason.items c.requires.within (read c.args.asked.now.store.now.entries c.entries.result.now c.args.asked.now.entry c.entries.ensures.views c.requires.within) refl
+    (subst (λ (s : Trail). IsReasonFor (task_of c.args.enforcement.now (g.R.Rule.body c.args.rule.now)) s u c.explain_before.new.draft.reason.items) c.before-past.ensures (c.explain_before.ensures ok))

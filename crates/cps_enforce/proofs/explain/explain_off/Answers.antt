@@ -25,7 +25,7 @@ returns g c = λ _.
     let s = c.args.past.now in
     let t = c.args.narrowing.now.target in
     let refuted = subst (λ (l : List Atom). IsRefuted b c.args.past.now l) (sym c.as_slice-facts.ensures.value) (c.in_ok-is_refuted.ensures (ap Ok c.if-not-is_refuted.false)) in
-    subst (λ (l : List Atom). IsReasonFor (HoldsTask (task_of c.args.waiting.now.enforcement.now b)) c.args.past.now c.args.narrowing.now.target l) (sym c.in_ok-push.ensures.items)
+    subst (λ (l : List Atom). IsReasonFor (task_of c.args.waiting.now.enforcement.now b) c.args.past.now c.args.narrowing.now.target l) (sym c.in_ok-push.ensures.items)
     (off_reason s c.args.waiting.now.enforcement.now c.args.waiting.now.place c.negate-negation.result b c.requires.open.inside c.negate-negation.ensures.subject c.negate-negation.ensures.negated
     c.as_slice-facts.result.now c.deny_others.new.reason.items t c.in_ok-deny_others.ensures c.requires.subject (c.implies.ensures.0 c.if-not-implies.false) refuted)
 

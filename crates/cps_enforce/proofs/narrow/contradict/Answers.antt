@@ -25,14 +25,14 @@ give_by-requires-clause-facts g c = subst (λ (l : List Atom). AreFacts c.presen
 pub give_by-requires-clause-subject : goal.give_by-requires-clause-subject
 give_by-requires-clause-subject g c = subst (λ (s : Trail). c.args.narrowing.now.target.subject < length s.first) (sym c.present-past.ensures) c.requires.given.subject
 
-pub returns-then-is_explained : goal.returns-then-is_explained
-returns-then-is_explained g c =
+pub returns-then-is_own : goal.returns-then-is_own
+returns-then-is_own g c =
     let b = g.R.Rule.body c.args.rule.now in
     let t = c.args.narrowing.now.target in
     let explained = subst (λ (l : List Atom). IsExplained b c.present-past.result c.args.narrowing.now.target l) (sym c.as_slice-facts.ensures.value) (c.in_ok-is_explained.ensures (ap Ok c.if-is_explained.true)) in
     on_ok c.give_by.result _ _ c.give_by.ensures (λ made.
-    conflict_of_reason (HoldsTask (task_of c.args.enforcement.now b)) c.args.store.now t c.give_by.new.reason.items
-    (subst (λ (s : Trail). IsReasonFor (HoldsTask (task_of c.args.enforcement.now b)) s c.args.narrowing.now.target c.give_by.new.reason.items) c.present-past.ensures (made b explained)) c.requires.false_now)
+    conflict_of_reason (task_of c.args.enforcement.now b) c.args.store.now t c.give_by.new.reason.items
+    (subst (λ (s : Trail). IsReasonFor (task_of c.args.enforcement.now b) s c.args.narrowing.now.target c.give_by.new.reason.items) c.present-past.ensures (made b explained)) c.requires.false_now (c.in_ok-is_own.ensures (ap Ok c.if-is_own.true)))
 
 pub conflict_by_past-requires-clause-impossible : goal.conflict_by_past-requires-clause-impossible
 conflict_by_past-requires-clause-impossible g c = given_false c.args.store.now (g.R.Rule.body c.args.rule.now) c.args.narrowing.now.target c.requires.given c.requires.false_now

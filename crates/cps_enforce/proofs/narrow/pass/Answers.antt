@@ -4,9 +4,9 @@ use Rattle.std.proofs.Common.{List, Ok, OnOk, ap, subst, sym}
 use Rattle.cps_instance.specs.declared.task.Body.{Body}
 use Rattle.cps_instance.specs.Tasks.{HoldsTask}
 use Rattle.cps_trail.specs.Trail.{Trail, IsTrueNow}
-use Rattle.cps_trail.specs.Adds.{Infers, Answers}
+use Rattle.cps_trail.specs.Adds.{Infers}
 use Rattle.cps_trail.specs.Notes.{ByTask}
-use Rattle.cps_propagate.specs.Conflicts.{as_step}
+use Rattle.cps_propagate.specs.Conflicts.{AnswersBy, as_step}
 use Rattle.cps_rule.specs.declared.rule.Narrowing.{Narrowing}
 use Rattle.cps_rule.specs.Rules.{IsGiven}
 use Rattle.cps_enforce.specs.Reasons.{task_of}
@@ -34,7 +34,7 @@ returns-in-Possible-clause-infers g c =
 
 pub returns-in-Possible-clause-answers : goal.returns-in-Possible-clause-answers
 returns-in-Possible-clause-answers g c =
-    subst (λ (b : Body). IfOk c.narrow_all.result (λ answer. Answers (HoldsTask (task_of c.args.header.now.enforcement.now b)) c.narrow_all.new.store (as_step answer c.narrow_all.new.room.conflict.items))) c.look.ensures.keeps c.narrow_all.ensures.answers
+    subst (λ (b : Body). IfOk c.narrow_all.result (λ answer. AnswersBy (task_of c.args.header.now.enforcement.now b) c.narrow_all.new.store (as_step answer c.narrow_all.new.room.conflict.items))) c.look.ensures.keeps c.narrow_all.ensures.answers
 
 pub narrow_all-requires-clause-force : goal.narrow_all-requires-clause-force
 narrow_all-requires-clause-force g c = subst (λ (b : Body). IsTaskInForce c.args.store.now c.args.header.now.enforcement.now b) (sym c.look.ensures.keeps) c.requires.force

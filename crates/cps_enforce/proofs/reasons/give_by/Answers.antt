@@ -7,5 +7,5 @@ use Rattle.cps_enforce.proofs.reasons.give_by.Goals as goal
 
 pub returns : goal.returns
 returns c = λ body explained.
-    subst (λ (l : List Atom). IsReasonFor (HoldsTask (task_of c.args.enforcement.now body)) c.args.past.now c.args.target l) (sym c.in_ok-push.ensures.items)
+    subst (λ (l : List Atom). IsReasonFor (task_of c.args.enforcement.now body) c.args.past.now c.args.target l) (sym c.in_ok-push.ensures.items)
     (explained_reason c.args.past.now c.args.enforcement.now c.args.facts.now c.deny_both.new.reason.items c.args.target body c.in_ok-deny_both.ensures c.requires.subject explained)

@@ -6,7 +6,7 @@ use Rattle.cps_propagation_tests.proofs.Noting.{none_fit, none_noted, decided_fi
 use Rattle.cps_propagate.specs.Agenda.{Agenda}
 use Rattle.cps_propagate.specs.Laws.{IsInStep}
 use Rattle.cps_propagate.specs.Notes.{ByTasks}
-use Rattle.cps_propagation_tests.proofs.SumFits.{decided_step, fits_after}
+use Rattle.cps_propagation_tests.proofs.SumFits.{decided_recalls, decided_step, fits_after}
 use Rattle.cps_propagation_tests.proofs.engines.run_on.Goals as goal
 
 pub run_from-requires-clause-fits : goal.run_from-requires-clause-fits
@@ -24,6 +24,13 @@ run_from-requires-clause-in_step g c =
     subst (λ (us : List Task). IsInStep us t from) (ap (λ (a : Agenda). a.tasks) (sym c.in_ok-run.ensures.keeps))
     (decided_step (ByTasks tasks) tasks c.args.store.now s t e from c.requires.level c.in_ok-run.ensures.infers (c.in_ok-run.ensures.at_rest (ap Ok c.in-Settled.is)) c.entries-from.ensures.sound refl
     (c.in_ok-was_open.ensures.decided (ap Ok c.if-was_open.true)) c.entries-from.ensures.views.same_length)
+
+pub run_from-requires-clause-recalls : goal.run_from-requires-clause-recalls
+run_from-requires-clause-recalls g c =
+    let decided = c.in_ok-was_open.ensures.decided (ap Ok c.if-was_open.true) in
+    let e : Entry = record { atom = c.args.atom; level = c.run.new.store.level + 1; reason = Decision } in
+    decided_recalls c.run.new.self.recall c.run.new.store c.decide.new.store e (length c.entries-from.result.now) c.in_ok-run.ensures.recalls
+    (ap (λ (w : Trail). w.first) decided) (ap (λ (w : Trail). w.entries) decided) c.entries-from.ensures.views.same_length
 
 pub returns-after-branch-5 : goal.returns-after-branch-5
 returns-after-branch-5 g c = λ _.

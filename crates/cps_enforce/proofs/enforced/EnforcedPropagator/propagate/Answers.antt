@@ -4,10 +4,10 @@ use Rattle.cps_literal.specs.declared.atom.Atom.{Atom}
 use Rattle.cps_instance.specs.declared.task.Task.{Task}
 use Rattle.cps_instance.specs.Fitting.{IsFitting}
 use Rattle.cps_instance.specs.Tasks.{HoldsTask}
-use Rattle.cps_trail.specs.Adds.{IsConflict, Answers, Infers}
+use Rattle.cps_trail.specs.Adds.{Infers}
 use Rattle.cps_trail.specs.Notes.{ByTask}
 use Rattle.cps_propagate.specs.declared.propagator.Answer.{Answer}
-use Rattle.cps_propagate.specs.Conflicts.{as_step}
+use Rattle.cps_propagate.specs.Conflicts.{IsConflictBy, AnswersBy, as_step}
 use Rattle.cps_propagate.specs.Laws.{IsDecided}
 use Rattle.cps_propagate.specs.Strength.{IsStrong}
 use Rattle.cps_enforce.specs.Reasons.{task_of}
@@ -29,9 +29,9 @@ returns-in-NoConflict-clause-strong g c e same =
 pub returns-in-Conflict-clause-answers : goal.returns-in-Conflict-clause-answers
 returns-in-Conflict-clause-answers g c =
     let b = g.R.Rule.body c.self.inside.rule in
-    let met = subst (λ (a : Answer). Answers (HoldsTask (task_of c.as_slice.result.now b)) c.visit.new.store (as_step a c.visit.new.room.conflict.items)) c.in-Conflict.is c.in_ok-visit.ensures.answers in
-    let handed = subst (λ (l : List Atom). IsConflict (HoldsTask (task_of c.as_slice.result.now b)) c.visit.new.store l) (sym (ap (λ (v : _). v.items) c.swap.ensures.y_after)) met in
-    subst (λ (t : Task). IsConflict (HoldsTask t) c.visit.new.store c.swap.new.y.items) (ap (λ (us : List Atom). task_of us b) c.as_slice.ensures.value ∙ c.self.view_is) handed
+    let met = subst (λ (a : Answer). AnswersBy (task_of c.as_slice.result.now b) c.visit.new.store (as_step a c.visit.new.room.conflict.items)) c.in-Conflict.is c.in_ok-visit.ensures.answers in
+    let handed = subst (λ (l : List Atom). IsConflictBy (task_of c.as_slice.result.now b) c.visit.new.store l) (sym (ap (λ (v : _). v.items) c.swap.ensures.y_after)) met in
+    subst (λ (t : Task). IsConflictBy t c.visit.new.store c.swap.new.y.items) (ap (λ (us : List Atom). task_of us b) c.as_slice.ensures.value ∙ c.self.view_is) handed
 
 pub returns-in-NoConflict-clause-infers : goal.returns-in-NoConflict-clause-infers
 returns-in-NoConflict-clause-infers g c =
@@ -46,4 +46,4 @@ returns-in-Conflict-clause-infers g c =
 pub visit-requires : goal.visit-requires
 visit-requires g c =
     let b = g.R.Rule.body c.self.inside.rule in
-    record { fits = subst (λ (t : Task). IsFitting c.args.store.now.first t) (sym (ap (λ (us : List Atom). task_of us b) c.as_slice.ensures.value ∙ c.self.view_is)) c.requires }
+    record { fits = subst (λ (t : Task). IsFitting c.args.store.now.first t) (sym (ap (λ (us : List Atom). task_of us b) c.as_slice.ensures.value ∙ c.self.view_is)) c.requires.fits }
