@@ -13,3 +13,9 @@ pub record IsSpread (s : Trail) (ts : List Term) (whole : Spread) : Type 0 where
   pub hulls : AreTightEnds s ts values
   pub ends : AreSumEnds ts values whole.sum
   pub widths : AllZip (IsNoWider whole.widest) ts values
+
+-- the ends of the sum, by the ends that the values of each subject reach
+pub record IsSumNow (s : Trail) (ts : List Term) (sum : Ends) : Type 0 where
+  pub values : List Ends
+  pub hulls : AreTightEnds s ts values
+  pub ends : AreSumEnds ts values sum

@@ -3,12 +3,12 @@ use Rattle.std.proofs.Common.{ap, subst, Ok}
 use Rattle.std.proofs.lemmas.Result.{IfOk-at_ok, on_ok_weaker}
 use Rattle.cps_trail.proofs.Inferring.{Infers-trans}
 use Rattle.cps_trail.specs.Notes.{ByTask}
-use Rattle.cps_trail.specs.Adds.{Infers, Answers}
+use Rattle.cps_trail.specs.Adds.{Infers}
 use Rattle.cps_propagate.specs.declared.propagator.Answer.{Answer}
 use Rattle.cps_propagate.specs.Conflicts.{as_step}
 use Rattle.cps_p_linear.specs.declared.ends.Side.{Side}
 use Rattle.cps_p_linear.specs.declared.ends.Side.TheVariants.{High}
-use Rattle.cps_p_linear.specs.Measuring.{Asks}
+use Rattle.cps_p_linear.specs.Measuring.{Asks, AnswersBySum}
 use Rattle.cps_p_linear.specs.Passing.{IsCutAt}
 use Rattle.cps_p_linear.proofs.ConflictAnswers.{not_settled}
 use Rattle.cps_p_linear.proofs.Explained.{measured_later, facts_later, cut_later, room_of_cuts}
@@ -32,7 +32,7 @@ pub returns-in-Conflict-clause-infers : goal.returns-in-Conflict-clause-infers
 returns-in-Conflict-clause-infers c = c.in_ok-keep_end.ensures.infers
 
 pub returns-in-Conflict-clause-answers : goal.returns-in-Conflict-clause-answers
-returns-in-Conflict-clause-answers c = subst (λ (a : Answer). Answers (Asks c.args.high.now.measured.task) c.keep_end.new.store (as_step a c.keep_end.new.facts.reason.items)) c.in-Conflict.is c.in_ok-keep_end.ensures.answers
+returns-in-Conflict-clause-answers c = subst (λ (a : Answer). AnswersBySum c.args.high.now.measured.task c.keep_end.new.store (as_step a c.keep_end.new.facts.reason.items)) c.in-Conflict.is c.in_ok-keep_end.ensures.answers
 
 pub returns-in-Conflict-clause-room : goal.returns-in-Conflict-clause-room
 returns-in-Conflict-clause-room c = λ is. absurd (not_settled is)

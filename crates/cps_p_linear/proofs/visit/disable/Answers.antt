@@ -18,17 +18,17 @@ no_atom = record { subject = 0; op = Le; value = pos 0 }
 
 pub returns-in-Some-clause-aside : goal.returns-in-Some-clause-aside
 returns-in-Some-clause-aside c =
-    let here = c.spread_now-whole.ensures in
+    let here = c.requires.sum in
     aside_possible c.args.store.now c.args.task.now.enforcement.now c.args.place c.args.task.now.terms.now c.args.task.now.admitted.now c.requires.open
-    (possible_of c.args.store.now c.args.task.now.terms.now here.values c.args.task.now.admitted.now c.spread_now-whole.result.sum c.in-Some.field-0 here.hulls here.ends c.in-Some.ensures)
+    (possible_of c.args.store.now c.args.task.now.terms.now here.values c.args.task.now.admitted.now c.args.sum.now c.in-Some.field-0 here.hulls here.ends c.in-Some.ensures)
 
 pub returns-clause-infers : goal.returns-clause-infers
 returns-clause-infers c =
     let s = c.args.store.now in
-    let here = c.spread_now-whole.ensures in
-    let m = measured_of s c.args.task.now.terms.now c.args.task.now.admitted.now here.values here.values c.spread_now-whole.result.sum c.requires.range here.hulls here.ends refl in
+    let here = c.requires.sum in
+    let m = measured_of s c.args.task.now.terms.now c.args.task.now.admitted.now here.values here.values c.args.sum.now c.requires.range here.hulls here.ends refl in
     Infers-noted c.args.number (Asks c.args.task.now) s c.imply_later.new.self c.negate-negation.result _ _ c.in_ok-imply_later.ensures.noted
-    (forced_off s c.args.task.now.enforcement.now c.args.place no_atom c.negate-negation.result c.args.task.now.terms.now here.values c.args.task.now.admitted.now c.spread_now-whole.result.sum m c.in-None.ensures c.requires.open.inside c.requires.open.others c.requires.negatable
+    (forced_off s c.args.task.now.enforcement.now c.args.place no_atom c.negate-negation.result c.args.task.now.terms.now here.values c.args.task.now.admitted.now c.args.sum.now m c.in-None.ensures c.requires.open.inside c.requires.open.others c.requires.negatable
     c.negate-negation.ensures.subject c.negate-negation.ensures.negated)
 
 pub returns-clause-aside : goal.returns-clause-aside
