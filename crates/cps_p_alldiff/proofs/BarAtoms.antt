@@ -1,5 +1,5 @@
 -- Atoms that keep a subject out of an interval, and the bounds beside which they do.
-use Rattle.std.specs.Prelude.{int_le, not}
+use Rattle.std.specs.Prelude.{int_le, not, Contains}
 use Rattle.std.proofs.Common.{ℕ, ℤ, pos, ◌+ℤ◌, ◌≤ℤ◌, ◌<◌, ◌≡◌, length, Bool, true, false, List, [], ◌∷◌, ◌++◌, refl, sym, subst, arith}
 use Rattle.std.proofs.lemmas.Int.{ints}
 use Rattle.cps_domain.specs.Window.{equals}
@@ -9,6 +9,7 @@ use Rattle.cps_literal.specs.declared.atom.Op.{Op}
 use Rattle.cps_literal.specs.declared.atom.Op.TheVariants.{Le, Ge, Ne}
 use Rattle.cps_literal.specs.Truth.{meets, value_at}
 use Rattle.cps_trail.specs.Trail.{Trail, IsTrueNow}
+use Rattle.cps_propagate.proofs.Speaking.{speaks_push}
 use Rattle.cps_p_alldiff.specs.declared.interval.Interval.{Interval}
 use Rattle.cps_p_alldiff.specs.Intervals.{IsInRange}
 use Rattle.cps_p_alldiff.specs.Bars.{IsBar}
@@ -72,6 +73,7 @@ pub near_by : (s : Trail) (t near : Atom) (h : Interval) (old new : List Atom) �
 near_by s t near h old new bound now inside pushed = subst (λ (us : List Atom). IsNear s t h old us) (sym pushed) (record {
   facts = λ f. facts_push s old near f (record { subject = inside; inside = bound.inside; true_now = now });
   kept = λ xs all. all_before xs old near all;
+  about = λ is mine before. speaks_push is old near before (subst (λ (i : ℕ). Contains is i) (sym bound.subject) mine);
   near = λ xs all no'.
       let met : meets near.op near.value (value_at xs t.subject) ≡ true = subst (λ (i : ℕ). meets near.op near.value (value_at xs i) ≡ true) bound.subject (last_true xs old near all) in
       bound.bounds (value_at xs t.subject) met no';
@@ -81,6 +83,7 @@ pub near_itself : (s : Trail) (t : Atom) (h : Interval) (old new : List Atom) �
 near_itself s t h old new is-ne a b same = subst (λ (us : List Atom). IsNear s t h old us) (sym same) (record {
   facts = λ f. f;
   kept = λ xs all. all;
+  about = λ is mine before. before;
   near = λ xs all no'.
       let v = value_at xs t.subject in
       let e = equals_is v t.value (turned (equals v t.value) (subst (λ (o : Op). meets o t.value v ≡ false) is-ne no')) in

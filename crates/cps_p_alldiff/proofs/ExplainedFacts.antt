@@ -1,8 +1,9 @@
 -- What facts by which positions have values in an interval explain.
-use Rattle.std.specs.Prelude.{None, Some, Result, Ok, Err, Bool, IsTrue, not}
+use Rattle.std.specs.Prelude.{Contains, None, Some, Result, Ok, Err, Bool, IsTrue, not}
 use Rattle.std.specs.declared.alloc.AllocError.{AllocError}
 use Rattle.std.proofs.Common.{ℕ, ◌+◌, ◌<◌, ◌==◌, ◌≡◌, inl, inr, true, false, List, length, get_or, sym, ap, subst, rules, arith}
 use Rattle.std.proofs.lemmas.Grind.{common_steps}
+use Rattle.std.proofs.lemmas.List.Elements.{Contains-get_or}
 use Rattle.cps_literal.specs.declared.atom.Atom.{Atom}
 use Rattle.cps_literal.specs.Truth.{value_at, atom_holds}
 use Rattle.cps_instance.specs.declared.task.Body.TheVariants.{AllDiff}
@@ -22,6 +23,7 @@ pub explained : (s : Trail) (is : List ℕ) (h : Interval) (t : Atom) (k n : ℕ
     → IsNear s t h others facts → IsExplained (AllDiff is) s t facts
 explained s is h t k n others facts ends count l at-k holding near = record {
   facts = near.facts holding.facts;
+  speaks = near.about is (subst (λ (i : ℕ). Contains is i) at-k (Contains-get_or is k 0 l)) holding.speaks;
   gives = λ xs within all body. elim (bool_cases (atom_holds xs t)) [
     | inl yes' ↦ yes'
     | inr no' ↦
@@ -37,6 +39,7 @@ explained s is h t k n others facts ends count l at-k holding near = record {
 pub refuted : (s : Trail) (is : List ℕ) (h : Interval) (n : ℕ) (facts : List Atom) → AreEnds h → n ≡ numbers h + 1 → AreHolding s is None h n facts → IsRefuted (AllDiff is) s facts
 refuted s is h n facts ends count holding = record {
   facts = holding.facts;
+  speaks = holding.speaks;
   excludes = λ xs within all body.
       let held = holding.held xs all in
       let fewer = both_fewer (is_other None) (λ i. lies_in h (value_at xs i)) is in

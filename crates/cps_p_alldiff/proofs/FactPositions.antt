@@ -1,9 +1,9 @@
 -- Positions whose values facts hold in an interval, one after the other.
 use Rattle.std.specs.Prelude.{Option}
 use Rattle.std.proofs.Common.{ℕ, ◌+◌, ◌<◌, ◌≤◌, ℤ, ◌≡◌, inl, inr, Bool, true, cond, List, [], ◌∷◌, ◌++◌, length, get_or, take, sym, subst, arith}
-use Rattle.std.specs.List.{count_by}
+use Rattle.std.specs.List.{Contains, count_by}
 use Rattle.std.proofs.lemmas.Int.{ints}
-use Rattle.std.proofs.lemmas.List.Elements.{All-nil, All-push, All-head}
+use Rattle.std.proofs.lemmas.List.Elements.{All-nil, All-push, All-head, Contains-get_or}
 use Rattle.std.proofs.lemmas.List.Sums.{sum_by-take-drop, count_by_more_yes, count_by_more_no}
 use Rattle.cps_domain.proofs.Tests.{true_le, le_true, both}
 use Rattle.cps_literal.specs.declared.atom.Atom.{Atom}
@@ -12,6 +12,8 @@ use Rattle.cps_literal.specs.Truth.{value_at, atom_holds}
 use Rattle.cps_instance.proofs.Agreeing.{All-append_left, All-append_right}
 use Rattle.cps_trail.specs.Trail.{Trail, IsInside}
 use Rattle.cps_propagate.specs.Strength.{IsHeld}
+use Rattle.cps_propagate.specs.Reasons.{SpeaksOf}
+use Rattle.cps_propagate.proofs.Speaking.{speaks_none, speaks_push}
 use Rattle.cps_rule.specs.Rules.{IsFact, AreFacts, AllTrueAt}
 use Rattle.cps_p_alldiff.specs.declared.interval.Interval.{Interval}
 use Rattle.cps_p_alldiff.specs.Intervals.{lies_in, IsInRange}
@@ -27,6 +29,7 @@ at_most i v = record { subject = i; op = Le; value = v }
 -- with the facts, all but `left` of the positions that are needed are among the first n
 pub record HoldsSoFar (s : Trail) (is : List ℕ) (apart : Option ℕ) (h : Interval) (needed left n : ℕ) (us : List Atom) : Type 0 where
   pub facts : AreFacts s us
+  pub speaks : SpeaksOf is us
   pub held : (xs : List ℤ) → AllTrueAt xs us → needed ≤ left + count_by (is_held xs apart h) (take n is)
 
 -- facts and one more
@@ -52,6 +55,7 @@ module _ (s : Trail) (is : List ℕ) (apart : Option ℕ) (h : Interval) (needed
   pub holds_skip : n < length is → HoldsSoFar s is apart h needed left n facts → HoldsSoFar s is apart h needed left (n + 1) facts
   holds_skip l p = record {
     facts = p.facts;
+    speaks = p.speaks;
     held = λ xs all. let a = p.held xs all in let b = grows (is_held xs apart h) is n l in omega arith;
   }
 
@@ -59,6 +63,7 @@ module _ (s : Trail) (is : List ℕ) (apart : Option ℕ) (h : Interval) (needed
       → i < length s.first → IsInRange h → is_other apart i ≡ true → IsHeld s h.low h.high i → HoldsSoFar s is apart h needed left n facts → HoldsSoFar s is apart h needed left' (n + 1) facts'
   holds_more left' i a b facts' l less is-i is-a is-b pushed inside range other within p = subst (λ (us : List Atom). HoldsSoFar s is apart h needed left' (n + 1) us) (sym pushed) (record {
     facts = facts_push s (facts ++ at_least i a ∷ []) (at_most i b) (facts_push s facts (at_least i a) p.facts low) high;
+    speaks = speaks_push is (facts ++ at_least i a ∷ []) (at_most i b) (speaks_push is facts (at_least i a) p.speaks mine) mine;
     held = λ xs all.
         let first = all_before xs (facts ++ at_least i a ∷ []) (at_most i b) all in
         let v = value_at xs i in
@@ -70,6 +75,9 @@ module _ (s : Trail) (is : List ℕ) (apart : Option ℕ) (h : Interval) (needed
         omega arith;
   })
     where
+      mine : Contains is i
+      mine = subst (λ (j : ℕ). Contains is j) (sym is-i) (Contains-get_or is n 0 l)
+
       low : IsFact s (at_least i a)
       low = record { subject = inside; inside = subst (λ (z : ℤ). IsInside z) (sym is-a) range.low; true_now = λ x o. (let m = (within x o).0 in le_true a x (omega (arith, ints))) }
 
@@ -77,10 +85,11 @@ module _ (s : Trail) (is : List ℕ) (apart : Option ℕ) (h : Interval) (needed
       high = record { subject = inside; inside = subst (λ (z : ℤ). IsInside z) (sym is-b) range.high; true_now = λ x o. (let m = (within x o).1 in le_true x b (omega (arith, ints))) }
 
   pub holds_begun : facts ≡ [] → HoldsSoFar s is apart h needed needed n facts
-  holds_begun none = record { facts = subst (λ (us : List Atom). AreFacts s us) (sym none) (All-nil (IsFact s)); held = λ xs all. omega arith }
+  holds_begun none = record { facts = subst (λ (us : List Atom). AreFacts s us) (sym none) (All-nil (IsFact s)); speaks = subst (λ (us : List Atom). SpeaksOf is us) (sym none) (speaks_none is); held = λ xs all. omega arith }
 
   pub holds_all : left ≡ 0 → HoldsSoFar s is apart h needed left n facts → AreHolding s is apart h needed facts
   holds_all none p = record {
     facts = p.facts;
+    speaks = p.speaks;
     held = λ xs all. let a = p.held xs all in let b = fewer_taken (is_held xs apart h) is n in omega arith;
   }

@@ -2,6 +2,7 @@
 ghost use Rattle.std.specs.Prelude.{◌≡◌, ◌<◌, ◌≤◌, ◌^◌, IsTrue, false, length, All, OnOk};
 ghost use Rattle.cps_p_alldiff.specs.Intervals.{covers, covered, numbers, IsInRange, AreEnds, IsFull, IsOverfull, AreTightIntervals};
 
+use cps_domain::DOMAIN_LIMIT;
 use cps_trail::Store;
 use std::alloc::AllocError;
 
@@ -12,15 +13,12 @@ pub(crate) struct Interval {
     pub(crate) high: i64,
 }
 
-/// The greatest magnitude of a value that a domain may have.
-const LIMIT: i64 = (1 << 62) - 1;
-
 /// Whether a domain may have the two ends as values, and the first is not greater than the second.
 pub(crate) fn are_ends(hall: &Interval) -> bool
     ensures yes { IsTrue result → AreEnds hall.now }
     ensures no { result ≡ false → AreEnds hall.now → ⊥ }
 {
-    -LIMIT <= hall.low && hall.low <= hall.high && hall.high <= LIMIT
+    -DOMAIN_LIMIT <= hall.low && hall.low <= hall.high && hall.high <= DOMAIN_LIMIT
 }
 
 /// Whether an interval has all numbers of another.

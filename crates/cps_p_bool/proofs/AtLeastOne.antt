@@ -21,6 +21,7 @@ use Rattle.cps_p_bool.specs.Taking.{CanHold, IsConsistent, IsPlain}
 use Rattle.cps_p_bool.specs.Rules.{Runs, IsAlone, NeedsOne}
 use Rattle.cps_p_bool.proofs.AtomCounts.{count_one, any_of_count, any_at}
 use Rattle.cps_p_bool.proofs.AtomPlaces.{same_or_not}
+use Rattle.cps_p_bool.proofs.ReadSubjects.{atoms_read, list_read}
 use Rattle.cps_p_bool.proofs.ReasonConsequences.{by_bool, by_not_true, not_both, enforced}
 use Rattle.cps_p_bool.proofs.Consistent.{IsConsistent-anywhere, CanHold-anywhere, IsConsistent-or, IsConsistent-live, CanHold-or, CanHold-live}
 use Rattle.cps_p_bool.proofs.KindSteps.{pinned_true, pinned_false, IsDecided-pinned, IsDecided-alone, Runs-settled, some_atom}
@@ -30,6 +31,7 @@ module _ (s : Trail) (b : Body) (us : List Atom) (n : NeedsOne s b us) where
   Excludes-false h = record {
     at = λ xs within holds agrees.
         not_both (list_any (atom_holds xs) us) (n.some xs holds) (list_any_none (atom_holds xs) us (λ k d l. (agrees k d l).if_false (h k d l)));
+    used_read = list_read b us n.reads;
   }
 
   module _ (p : ℕ) (l : p < length us) (others : OthersAre (IsFalseNow s) us p) where
@@ -41,6 +43,8 @@ module _ (s : Trail) (b : Body) (us : List Atom) (n : NeedsOne s b us) where
             | inl same ↦ subst (λ (i : ℕ). atom_holds xs (get_or us i d) ≡ false) (sym same) (subst (λ (u : Atom). atom_holds xs u ≡ false) (get_or_default us p z d l) no)
             | inr ne ↦ (agrees k d m).if_false (others k d m ne)
           ])));
+      used_read = atoms_read e b us n.reads;
+      target_read = atoms_read e b us n.reads p z l;
     }
 
     alone : (u : Trail) (z : Atom) → ((k : ℕ) (d : Atom) → k < length us → k ≢ p → IsFalseNow u (get_or us k d)) → IsTrueNow u (get_or us p z) → IsAlone u us p

@@ -1,7 +1,7 @@
 -- At most one atom of a list is to be true.
 use Rattle.std.proofs.Common.{Result, Ok, ◌≡◌, ◌≢◌, ℕ, ◌+◌, ◌<◌, ◌≤◌, ℤ, Bool, true, not, List, [], ◌∷◌, length, get_or, refl, sym, ◌∙◌, ap, subst, inl, inr, arith}
 use Rattle.std.specs.Prelude.{IfOk, OnOk}
-use Rattle.std.specs.List.{list_all, count_by, All}
+use Rattle.std.specs.List.{list_all, count_by, All, Contains}
 use Rattle.std.proofs.Math.Nat.{eq-or-lt_of_le}
 use Rattle.std.proofs.lemmas.List.{get_or_default}
 use Rattle.std.proofs.lemmas.List.Sums.{list_all-from_AllPass}
@@ -9,12 +9,12 @@ use Rattle.cps_literal.specs.declared.atom.Atom.{Atom}
 use Rattle.cps_literal.specs.Truth.{atom_holds}
 use Rattle.cps_instance.specs.declared.task.Body.{Body}
 use Rattle.cps_instance.specs.declared.task.Body.TheVariants.{AtMostOne, ExactlyOne}
-use Rattle.cps_instance.specs.Tasks.{HoldsBody, HoldsTask, true_atoms}
+use Rattle.cps_instance.specs.Tasks.{HoldsBody, HoldsTask, subjects_of, subjects_of_body, true_atoms}
 use Rattle.cps_trail.specs.Trail.{Trail, IsTrueNow, IsFalseNow}
-use Rattle.cps_trail.specs.Adds.{Grounds, Infers, Answers}
+use Rattle.cps_trail.specs.Adds.{Grounds, Infers}
 use Rattle.cps_trail.specs.Notes.{ByTask}
 use Rattle.cps_trail.proofs.Inferring.{stays_false}
-use Rattle.cps_propagate.specs.Conflicts.{as_step}
+use Rattle.cps_propagate.specs.Conflicts.{AnswersBy, as_step}
 use Rattle.cps_propagate.specs.declared.propagator.Answer.{Answer}
 use Rattle.cps_propagate.specs.declared.propagator.Answer.TheVariants.{NoConflict}
 use Rattle.cps_propagate.specs.Strength.{OthersAre}
@@ -24,7 +24,8 @@ use Rattle.cps_p_bool.specs.Taking.{CanHold, IsConsistent, IsPlain}
 use Rattle.cps_p_bool.specs.Rules.{Runs, IsAlone, LimitsToOne}
 use Rattle.cps_p_bool.proofs.AtomCounts.{count_none, count_one, count_two}
 use Rattle.cps_p_bool.proofs.Denials.{IsOpposite, opposite_holds}
-use Rattle.cps_p_bool.proofs.AtomPlaces.{apart}
+use Rattle.cps_p_bool.proofs.ReadSubjects.{atoms_read, list_read}
+use Rattle.cps_p_bool.proofs.AtomPlaces.{apart, one_of, two_of}
 use Rattle.cps_p_bool.proofs.ReasonConsequences.{by_not_true}
 use Rattle.cps_p_bool.proofs.KindSteps.{pinned_true, IsDecided-pinned, IsDecided-alone, Runs-settled, Runs-waiting, settled_infers, same_store}
 use Rattle.cps_p_bool.proofs.Consistent.{IsConsistent-anywhere, CanHold-anywhere, IsConsistent-none, CanHold-none, CanHold-chosen}
@@ -50,6 +51,8 @@ module _ (b : Body) (us : List Atom) (n : LimitsToOne b us) where
         let here : atom_holds xs (get_or us c z) ≡ true = (agrees 0 z (omega arith)).if_true (chosen z) in
         let two = two_hold (atom_holds xs) us c i l m ne (λ d. subst (λ (u : Atom). atom_holds xs u ≡ true) (get_or_default us c z d l) here) (λ d. subst (λ (u : Atom). atom_holds xs u ≡ true) (get_or_default us i z d m) yes) in
         omega (arith, two, n.most xs (holds (enforced_all s e xs trues agrees-e)))));
+    used_read = one_of (λ u. Contains (subjects_of (task_of e b)) u.subject) us c z (atoms_read e b us n.reads) l;
+    target_read = subst (λ (k : ℕ). Contains (subjects_of (task_of e b)) k) (sym opposite.subject) (atoms_read e b us n.reads i z m);
   }
 
   -- two true atoms are too many
@@ -61,6 +64,7 @@ module _ (b : Body) (us : List Atom) (n : LimitsToOne b us) where
         let two = count_two (atom_holds xs) us c i a l (λ d. subst (λ (u : Atom). atom_holds xs u ≡ true) (get_or_default us c z d (omega (arith, a, l))) first)
         (λ d. subst (λ (u : Atom). atom_holds xs u ≡ true) (get_or_default us i z d l) second) in
         omega (arith, two, n.most xs holds);
+    used_read = two_of (λ u. Contains (subjects_of_body b) u.subject) us c i z (list_read b us n.reads) (omega (arith, a, l)) l;
   }
 
   alone_holds : (s : Trail) (c : ℕ) → c < length us → IsAlone s us c → (xs : List ℤ) → All (Agrees s xs) us → HoldsBody b xs
@@ -68,13 +72,13 @@ module _ (b : Body) (us : List Atom) (n : LimitsToOne b us) where
 
   -- what `close` does
   pub Runs-closed : {number : ℕ} {E : Type 0} {clause : List Atom} (s u : Trail) (e : List Atom) (c : ℕ) (a : Result Answer E) → AreLiterals s.first us → IsPlain s us → All (IsTrueNow s) e → c < length us
-      → OnOk a ((d : Body) → LimitsToOne d us → Infers (ByTask number (HoldsTask (task_of e d))) s u) → IfOk a (λ q. (d : Body) → LimitsToOne d us → Answers (HoldsTask (task_of e d)) u (as_step q clause))
+      → OnOk a ((d : Body) → LimitsToOne d us → Infers (ByTask number (HoldsTask (task_of e d))) s u) → IfOk a (λ q. (d : Body) → LimitsToOne d us → AnswersBy (task_of e d) u (as_step q clause))
       → (a ≡ Ok NoConflict → IsAlone u us c) → Runs number (task_of e b) s u a clause
   Runs-closed {number} {E} {clause} s u e c a fits plain trues l i r alone =
       let infers = IfOk-map a {P = λ _. (d : Body) → LimitsToOne d us → Infers (ByTask number (HoldsTask (task_of e d))) s u} {Q = λ _. Infers (ByTask number (HoldsTask (task_of e b))) s u} (λ step h. h b n) i in
       record {
         infers = infers;
-        answers = IfOk-map a {P = λ q. (d : Body) → LimitsToOne d us → Answers (HoldsTask (task_of e d)) u (as_step q clause)} {Q = λ q. Answers (HoldsTask (task_of e b)) u (as_step q clause)} (λ step h. h b n) r;
+        answers = IfOk-map a {P = λ q. (d : Body) → LimitsToOne d us → AnswersBy (task_of e d) u (as_step q clause)} {Q = λ q. AnswersBy (task_of e b) u (as_step q clause)} (λ step h. h b n) r;
         decided = λ is. IsDecided-alone u e b us c n.reads n.one l (alone is);
         possible = λ is same.
             let store = same_store (ByTask number (HoldsTask (task_of e b))) s u (settled_infers {E = E} s e b u a is infers) same in

@@ -9,9 +9,9 @@ use Rattle.cps_instance.specs.declared.task.Body.{Body}
 use Rattle.cps_instance.specs.Tasks.{HoldsBody, HoldsTask, atom_subjects, subjects_of_body, true_atoms}
 use Rattle.cps_instance.proofs.Agreeing.{All-append_left, All-append_right}
 use Rattle.cps_trail.specs.Trail.{Trail, IsTrueNow, IsFalseNow}
-use Rattle.cps_trail.specs.Adds.{Grounds, Infers, Answers}
+use Rattle.cps_trail.specs.Adds.{Grounds, Infers}
 use Rattle.cps_trail.specs.Notes.{ByTask}
-use Rattle.cps_propagate.specs.Conflicts.{as_step}
+use Rattle.cps_propagate.specs.Conflicts.{AnswersBy, as_step}
 use Rattle.cps_propagate.specs.declared.propagator.Answer.{Answer}
 use Rattle.cps_propagate.specs.declared.propagator.Answer.TheVariants.{NoConflict}
 use Rattle.cps_trail.proofs.Inferring.{Infers-refl, same_midway}
@@ -115,12 +115,12 @@ module _ {E : Type 0} (s : Trail) (e : List Atom) (b : Body) where
 
   -- what `reject` does
   pub Runs-refused : {number : ℕ} {clause : List Atom} (u : Trail) (last : ℕ) (used : List Atom) (a : Result Answer E) → IsInForce s e last → Excludes s b used → OnOk a ((c : Body) → Excludes s c used → Infers (ByTask number (HoldsTask (task_of e c))) s u)
-      → IfOk a (λ q. (c : Body) → Excludes s c used → Answers (HoldsTask (task_of e c)) u (as_step q clause)) → (a ≡ Ok NoConflict → IsOff u e last) → Runs number (task_of e b) s u a clause
+      → IfOk a (λ q. (c : Body) → Excludes s c used → AnswersBy (task_of e c) u (as_step q clause)) → (a ≡ Ok NoConflict → IsOff u e last) → Runs number (task_of e b) s u a clause
   Runs-refused {number} {clause} u last used a force x i r off =
       let infers = IfOk-map a {P = λ _. (c : Body) → Excludes s c used → Infers (ByTask number (HoldsTask (task_of e c))) s u} {Q = λ _. Infers (ByTask number (HoldsTask (task_of e b))) s u} (λ step h. h b x) i in
       record {
         infers = infers;
-        answers = IfOk-map a {P = λ q. (c : Body) → Excludes s c used → Answers (HoldsTask (task_of e c)) u (as_step q clause)} {Q = λ q. Answers (HoldsTask (task_of e b)) u (as_step q clause)} (λ step h. h b x) r;
+        answers = IfOk-map a {P = λ q. (c : Body) → Excludes s c used → AnswersBy (task_of e c) u (as_step q clause)} {Q = λ q. AnswersBy (task_of e b) u (as_step q clause)} (λ step h. h b x) r;
         decided = λ is. IsDecided-off u e b last (off is);
         possible = λ is same. absurd (still_open infers is same);
         consistent = λ is same _. absurd (still_open infers is same);
@@ -139,13 +139,13 @@ module _ {E : Type 0} (s : Trail) (e : List Atom) (b : Body) where
 
   -- what `infer` does
   pub Runs-inferred : {number : ℕ} {clause : List Atom} (u : Trail) (used : List Atom) (t : Atom) (a : Result Answer E) → All (IsTrueNow s) e → GivesAtom s (task_of e b) used t → OnOk a ((c : Body) → GivesAtom s (task_of e c) used t → Infers (ByTask number (HoldsTask (task_of e c))) s u)
-      → IfOk a (λ q. (c : Body) → GivesAtom s (task_of e c) used t → Answers (HoldsTask (task_of e c)) u (as_step q clause)) → (a ≡ Ok NoConflict → IsTrueNow u t)
+      → IfOk a (λ q. (c : Body) → GivesAtom s (task_of e c) used t → AnswersBy (task_of e c) u (as_step q clause)) → (a ≡ Ok NoConflict → IsTrueNow u t)
       → (Infers (ByTask number (HoldsTask (task_of e b))) s u → IsTrueNow u t → IsDecided (task_of e b) u) → (IsTrueNow s t → CanHold s b × IsConsistent s b) → Runs number (task_of e b) s u a clause
   Runs-inferred {number} {clause} u used t a trues g i r made decided strong =
       let infers = IfOk-map a {P = λ _. (c : Body) → GivesAtom s (task_of e c) used t → Infers (ByTask number (HoldsTask (task_of e c))) s u} {Q = λ _. Infers (ByTask number (HoldsTask (task_of e b))) s u} (λ step h. h b g) i in
       record {
         infers = infers;
-        answers = IfOk-map a {P = λ q. (c : Body) → GivesAtom s (task_of e c) used t → Answers (HoldsTask (task_of e c)) u (as_step q clause)} {Q = λ q. Answers (HoldsTask (task_of e b)) u (as_step q clause)} (λ step h. h b g) r;
+        answers = IfOk-map a {P = λ q. (c : Body) → GivesAtom s (task_of e c) used t → AnswersBy (task_of e c) u (as_step q clause)} {Q = λ q. AnswersBy (task_of e b) u (as_step q clause)} (λ step h. h b g) r;
         decided = λ is. decided (settled_infers u a is infers) (made is);
         possible = λ is same.
             let store = same_store (ByTask number (HoldsTask (task_of e b))) s u (settled_infers u a is infers) same in

@@ -1,26 +1,28 @@
 -- What holds of a body by its normal form.
 use Rattle.std.proofs.Common.{◌≡◌, ℕ, ℤ, true, List, length, get_or, sym, ◌∙◌, subst, arith}
-use Rattle.std.specs.List.{All}
+use Rattle.std.specs.List.{All, Contains}
 use Rattle.std.proofs.lemmas.List.Elements.{All-map}
 use Rattle.std.proofs.lemmas.List.Sums.{list_all-from_AllPass}
 use Rattle.cps_literal.specs.declared.atom.Atom.{Atom}
 use Rattle.cps_literal.specs.Truth.{value_at, atom_holds}
 use Rattle.cps_instance.specs.declared.task.Body.{Body}
 use Rattle.cps_instance.specs.declared.task.Body.TheVariants.{BoolAnd}
-use Rattle.cps_instance.specs.Tasks.{HoldsBody, atom_subjects, subjects_of_body}
+use Rattle.cps_instance.specs.Tasks.{HoldsBody, HoldsTask, atom_subjects, subjects_of_body}
 use Rattle.cps_instance.proofs.Agreeing.{AgreeAt, HoldsBody-agree}
 use Rattle.cps_trail.specs.Trail.{Domains, Entry, Reason, Decision, Because, Trail, IsTrueNow, IsFalseNow, IsWithin, Later}
 use Rattle.cps_trail.proofs.Inferring.{Infers-weaker}
-use Rattle.cps_trail.specs.Adds.{Infers, Answers}
+use Rattle.cps_trail.specs.Adds.{Infers}
 use Rattle.cps_trail.specs.Notes.{ByTask}
 use Rattle.cps_trail.specs.declared.note.Note.TheVariants as notes
 use Rattle.cps_trail.proofs.Laws.{IsAdmitted-within}
 use Rattle.cps_trail.specs.declared.step.Step.{Step}
 use Rattle.cps_trail.specs.declared.step.Step.TheVariants.{Settled, Conflict}
 use Rattle.cps_propagate.specs.Now.{IsOpenTo}
-use Rattle.cps_p_bool.specs.Denying.{AreLiterals}
+use Rattle.cps_propagate.specs.Conflicts.{AnswersBy}
+use Rattle.cps_p_bool.specs.Denying.{AreLiterals, task_of}
 use Rattle.cps_p_bool.specs.Taking.{AreAllOpen, CanHold, IsConsistent}
 use Rattle.cps_p_bool.specs.Normal.{AreBits, IsNormalForm}
+use Rattle.cps_p_bool.proofs.ReadSubjects.{speaks_within}
 use Rattle.cps_p_bool.proofs.LiteralValues.{zero_or_one, bits, Pick, listed, listed_at, listed_holds, steer, can_be}
 
 -- what a constraint gives within the first domains, one that implies it there gives
@@ -33,9 +35,14 @@ ByTask-within n C D first w before t (Later (notes.InForce c)) g = g
 pub Infers-within : (n : ℕ) (C D : List ℤ → Type 0) (s u : Trail) → ((a : List ℤ) → IsWithin s.first a → D a → C a) → Infers (ByTask n C) s u → Infers (ByTask n D) s u
 Infers-within n C D s u w h = Infers-weaker (ByTask n C) (ByTask n D) s u (ByTask-within n C D s.first w) h
 
-pub Answers-within : (C D : List ℤ → Type 0) (u : Trail) → ((a : List ℤ) → IsWithin u.first a → D a → C a) → (step : Step) → Answers C u step → Answers D u step
-Answers-within C D u w Settled h = tt
-Answers-within C D u w (Conflict clause) h = record { follows = record { at = λ a i d. h.follows.at a i (w a i d) }; false_now = h.false_now; subjects = h.subjects }
+-- so does one whose body reads more
+pub AnswersBy-within : (e : List Atom) (a b : Body) (u : Trail) → ((xs : List ℤ) → IsWithin u.first xs → HoldsTask (task_of e b) xs → HoldsTask (task_of e a) xs) → All (Contains (subjects_of_body b)) (subjects_of_body a) → (step : Step)
+    → AnswersBy (task_of e a) u step → AnswersBy (task_of e b) u step
+AnswersBy-within e a b u w read Settled h = tt
+AnswersBy-within e a b u w read (Conflict clause) h = record {
+  given = record { follows = record { at = λ xs i d. h.given.follows.at xs i (w xs i d) }; false_now = h.given.false_now; subjects = h.given.subjects };
+  speaks = speaks_within e a b read clause h.speaks;
+}
 
 -- literals have the values 0 and 1 within the first domains, and at open values
 pub within_bits : (first : Domains) (us : List Atom) → AreLiterals first us → (xs : List ℤ) → IsWithin first xs → AreBits xs us

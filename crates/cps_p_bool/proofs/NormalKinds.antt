@@ -23,6 +23,7 @@ use Rattle.cps_p_bool.specs.Folding.{literal_of, IsBitLiteral, is_upper, opposit
 use Rattle.cps_p_bool.proofs.AtomCounts.{bit}
 use Rattle.cps_p_bool.proofs.LiteralValues.{truth_of}
 use Rattle.cps_p_bool.proofs.KindSteps.{All-unmap}
+use Rattle.cps_p_bool.proofs.ReadSubjects.{about_read, kind_reads}
 use Rattle.cps_p_bool.proofs.Tallies.{IsMet-there, IsMet-back, met_body, body_met}
 use Rattle.cps_p_bool.proofs.FoldedLists.{count_append, one_literal, literal_subject, literal_about}
 
@@ -287,15 +288,17 @@ module _ (k : Kind) (us vs : List Atom) (same : IsPermutation us vs) (f : Form) 
     normal_back h =
         met_body xs k us (IsMet-back k (tally k xs us) t.number alike (subst (λ (n : ℕ). IsMet k n) (sym (t.counted.counted h.0)) (fin.back xs h.1)))
 
-  pub IsNormal-finished : IsNormalForm us (body_of k us) f.sure.items (body_of rest left) left
-  IsNormal-finished = record {
+  pub IsNormal-finished : (k ≡ kinds.Empty → us ≡ []) → IsNormalForm us (body_of k us) f.sure.items (body_of rest left) left
+  IsNormal-finished none = record {
     holds = λ xs bits. (normal_there xs bits, normal_back xs bits);
     sure_apart = told.shaped.sure_apart;
     live_apart = apart_finished f.live.items left fin.subjects told.shaped.live_apart;
     disjoint = of_subjects (λ n. All (λ v. v.subject ≢ n) f.sure.items) f.live.items left fin.subjects told.shaped.disjoint;
     sure_about = about_us f.sure.items told.shaped.sure_about;
     live_about = about_us left (fin.about vs told.shaped.live_about);
+    sure_read = about_read (body_of k us) us f.sure.items (kind_reads k us none) (about_us f.sure.items told.shaped.sure_about);
+    rest_read = subst (λ (is : List ℕ). All (Contains (subjects_of_body (body_of k us))) is) (sym fin.reads) (about_read (body_of k us) us left (kind_reads k us none) (about_us left (fin.about vs told.shaped.live_about)));
   }
 
   pub IsReduced-finished : (k ≡ kinds.Empty → us ≡ []) → IsReduced k us f.sure.items rest left
-  IsReduced-finished none = record { normal = IsNormal-finished; reads = fin.reads; no_atoms = none }
+  IsReduced-finished none = record { normal = IsNormal-finished none; reads = fin.reads; no_atoms = none }

@@ -11,10 +11,11 @@ use Rattle.cps_instance.specs.declared.task.Body.TheVariants.{BoolAnd}
 use Rattle.cps_instance.specs.Tasks.{HoldsBody, HoldsTask, atom_subjects, subjects_of, subjects_of_body}
 use Rattle.cps_instance.proofs.Agreeing.{All-append_left, All-append_right}
 use Rattle.cps_trail.specs.Trail.{Trail, IsTrueNow, IsFalseNow, IsWithin}
-use Rattle.cps_trail.specs.Adds.{Grounds, Infers, Answers}
+use Rattle.cps_trail.specs.Adds.{Grounds, Infers}
 use Rattle.cps_trail.specs.Notes.{ByTask}
 use Rattle.cps_trail.proofs.Inferring.{Infers-refl, Infers-trans, same_midway, stays_true}
-use Rattle.cps_propagate.specs.Conflicts.{as_step}
+use Rattle.cps_propagate.specs.Conflicts.{AnswersBy, as_step}
+use Rattle.cps_propagate.proofs.Speaking.{speaks_among}
 use Rattle.cps_propagate.specs.declared.propagator.Answer.{Answer}
 use Rattle.cps_trail.specs.declared.step.Step.{Step}
 use Rattle.cps_propagate.specs.declared.propagator.Answer.TheVariants.{NoConflict, Conflict}
@@ -27,7 +28,7 @@ use Rattle.cps_p_bool.specs.Taking.{CanHold, IsConsistent}
 use Rattle.cps_p_bool.specs.Normal.{IsAbout, IsNormalForm}
 use Rattle.cps_p_bool.specs.Rules.{IsBoolean, Runs, Propagates}
 use Rattle.cps_p_bool.proofs.Results.{IfOk-map}
-use Rattle.cps_p_bool.proofs.NormalBodies.{Infers-within, Answers-within, within_bits, IsConsistent-normal, CanHold-normal, CanHold-sure}
+use Rattle.cps_p_bool.proofs.NormalBodies.{Infers-within, AnswersBy-within, within_bits, IsConsistent-normal, CanHold-normal, CanHold-sure}
 use Rattle.cps_p_bool.proofs.LiteralValues.{bits}
 use Rattle.cps_p_bool.proofs.KindSteps.{All-unmap, not_enforced, settled_infers, same_store, IsDecided-idle, IsDecided-off}
 use Rattle.cps_p_bool.proofs.Conjunctions.{Excludes-and}
@@ -81,23 +82,24 @@ module _ (s : Trail) (e us : List Atom) (b : Body) (sure : List Atom) (rest : Bo
   pub Infers-sure : {number : ℕ} (u : Trail) → Infers (ByTask number (HoldsTask (task_of e (BoolAnd sure)))) s u → Infers (ByTask number (HoldsTask (task_of e b))) s u
   Infers-sure {number} u h = Infers-within number (HoldsTask (task_of e (BoolAnd sure))) (HoldsTask (task_of e b)) s u gives_sure h
 
-  pub Answers-rest : (u : Trail) → u.first ≡ s.first → (step : Step) → Answers (HoldsTask (task_of e rest)) u step → Answers (HoldsTask (task_of e b)) u step
-  Answers-rest u same step h = Answers-within (HoldsTask (task_of e rest)) (HoldsTask (task_of e b)) u (λ xs within. gives_rest xs (subst (λ f. IsWithin f xs) same within)) step h
+  pub AnswersBy-rest : (u : Trail) → u.first ≡ s.first → (step : Step) → AnswersBy (task_of e rest) u step → AnswersBy (task_of e b) u step
+  AnswersBy-rest u same step h = AnswersBy-within e rest b u (λ xs within. gives_rest xs (subst (λ f. IsWithin f xs) same within)) n.rest_read step h
 
-  pub Answers-sure : (u : Trail) → u.first ≡ s.first → (step : Step) → Answers (HoldsTask (task_of e (BoolAnd sure))) u step → Answers (HoldsTask (task_of e b)) u step
-  Answers-sure u same step h = Answers-within (HoldsTask (task_of e (BoolAnd sure))) (HoldsTask (task_of e b)) u (λ xs within. gives_sure xs (subst (λ f. IsWithin f xs) same within)) step h
+  pub AnswersBy-sure : (u : Trail) → u.first ≡ s.first → (step : Step) → AnswersBy (task_of e (BoolAnd sure)) u step → AnswersBy (task_of e b) u step
+  AnswersBy-sure u same step h = AnswersBy-within e (BoolAnd sure) b u (λ xs within. gives_sure xs (subst (λ f. IsWithin f xs) same within)) n.sure_read step h
 
   -- a sure atom is false, so the body can not hold
   pub Excludes-sure : (i : ℕ) (z : Atom) → i < length sure → IsFalseNow s (get_or sure i z) → Excludes s b (get_or sure i z ∷ [])
   Excludes-sure i z l f = record {
     at = λ xs within holds agrees. (Excludes-and s sure i z l f).at xs within ((n.holds xs (within_bits s.first us fits xs within)).0 holds).0 agrees;
+    used_read = speaks_among (atom_subjects sure) (subjects_of_body b) (get_or sure i z ∷ []) n.sure_read (Excludes-and s sure i z l f).used_read;
   }
 
   -- a conflict among the sure atoms
-  pub Propagates-conflict : {number : ℕ} {E : Type 0} (u : Trail) (clause : List Atom) → Infers (ByTask number (HoldsTask (task_of e (BoolAnd sure)))) s u → Answers (HoldsTask (task_of e (BoolAnd sure))) u (as_step Conflict clause) → Propagates {E = E} number (task_of e b) s u (Ok Conflict) clause
+  pub Propagates-conflict : {number : ℕ} {E : Type 0} (u : Trail) (clause : List Atom) → Infers (ByTask number (HoldsTask (task_of e (BoolAnd sure)))) s u → AnswersBy (task_of e (BoolAnd sure)) u (as_step Conflict clause) → Propagates {E = E} number (task_of e b) s u (Ok Conflict) clause
   Propagates-conflict {number} {E} u clause i r = record {
     infers = Infers-sure u i;
-    answers = Answers-sure u i.first (as_step Conflict clause) r;
+    answers = AnswersBy-sure u i.first (as_step Conflict clause) r;
     decided = λ is. absurd (not_settled is);
     strong = λ is. absurd (not_settled is);
   }
@@ -137,8 +139,8 @@ module _ (s : Trail) (e us : List Atom) (b : Body) (sure : List Atom) (rest : Bo
 
     -- All enforcement atoms are true: the sure atoms were made true, and then the rest ran.
     module _ {number : ℕ} {clause : List Atom} (m u : Trail) (a : Result Answer E) (trues : All (IsTrueNow s) e) (f : Infers (ByTask number (HoldsTask (task_of e (BoolAnd sure)))) s m) (made : All (IsTrueNow m) sure) (r : Runs number (task_of e rest) m u a clause) where
-      on_answers : (q : Result Answer E) → OnOk q (Infers (ByTask number (HoldsTask (task_of e rest))) m u) → IfOk q (λ k. Answers (HoldsTask (task_of e rest)) u (as_step k clause)) → IfOk q (λ k. Answers (HoldsTask (task_of e b)) u (as_step k clause))
-      on_answers (Ok k) i h = Answers-rest u (i.first ∙ f.first) (as_step k clause) h
+      on_answers : (q : Result Answer E) → OnOk q (Infers (ByTask number (HoldsTask (task_of e rest))) m u) → IfOk q (λ k. AnswersBy (task_of e rest) u (as_step k clause)) → IfOk q (λ k. AnswersBy (task_of e b) u (as_step k clause))
+      on_answers (Ok k) i h = AnswersBy-rest u (i.first ∙ f.first) (as_step k clause) h
       on_answers (Err x) i h = tt
 
       on_decided : Infers (ByTask number (HoldsTask (task_of e rest))) m u → IsDecided (task_of e rest) u → IsDecided (task_of e b) u
@@ -172,8 +174,8 @@ module _ (s : Trail) (e us : List Atom) (b : Body) (sure : List Atom) (rest : Bo
       off : All (IsTrueNow s) e → ⊥
       off = not_enforced s e place l not_true
 
-      waiting_answers : (q : Result Answer E) → OnOk q (Infers (ByTask number (HoldsTask (task_of e rest))) s u) → IfOk q (λ k. Answers (HoldsTask (task_of e rest)) u (as_step k clause)) → IfOk q (λ k. Answers (HoldsTask (task_of e b)) u (as_step k clause))
-      waiting_answers (Ok k) i h = Answers-rest u i.first (as_step k clause) h
+      waiting_answers : (q : Result Answer E) → OnOk q (Infers (ByTask number (HoldsTask (task_of e rest))) s u) → IfOk q (λ k. AnswersBy (task_of e rest) u (as_step k clause)) → IfOk q (λ k. AnswersBy (task_of e b) u (as_step k clause))
+      waiting_answers (Ok k) i h = AnswersBy-rest u i.first (as_step k clause) h
       waiting_answers (Err x) i h = tt
 
       pub Propagates-waiting : Propagates number (task_of e b) s u a clause

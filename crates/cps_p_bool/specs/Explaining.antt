@@ -5,15 +5,17 @@ use Rattle.cps_literal.specs.declared.atom.Atom.{Atom}
 use Rattle.cps_literal.specs.Truth.{atom_holds}
 use Rattle.cps_instance.specs.declared.task.Task.{Task}
 use Rattle.cps_instance.specs.declared.task.Body.{Body}
-use Rattle.cps_instance.specs.Tasks.{HoldsBody, HoldsTask}
+use Rattle.cps_instance.specs.Tasks.{HoldsBody, HoldsTask, atom_subjects, subjects_of, subjects_of_body}
 use Rattle.cps_trail.specs.Trail.{Trail, Explains}
 use Rattle.cps_trail.specs.Adds.{Follows}
+use Rattle.cps_propagate.specs.Reasons.{SpeaksOf}
 use Rattle.cps_p_bool.specs.Denying.{Denies, Excludes}
 
--- a clause that a task gives, and that explains an atom in a store
+-- a clause that a task gives, that explains an atom in a store, and that speaks of what the task reads
 pub record IsExplanation (s : Trail) (t : Task) (target : Atom) (clause : List Atom) : Type 0 where
   pub explained : Explains s.first s.entries clause target
   pub follows : Follows (HoldsTask t) s.first clause
+  pub speaks : SpeaksOf (subjects_of t) clause
 
 -- a clause denies the enforcement atoms, and others by which a body holds nowhere
 pub record IsRuledOut (s : Trail) (enforcement : List Atom) (body : Body) (clause : List Atom) : Type 0 where
@@ -21,6 +23,7 @@ pub record IsRuledOut (s : Trail) (enforcement : List Atom) (body : Body) (claus
   pub excludes : Excludes s body used
   pub denies : Denies s [] clause (enforcement ++ used)
 
--- a body that needs a true atom of a list
+-- a body that asks of a list, and needs a true atom of it
 pub record AsksForOne (body : Body) (atoms : List Atom) : Type 0 where
+  pub reads : subjects_of_body body ≡ atom_subjects atoms
   pub some : (xs : List ℤ) → HoldsBody body xs → list_any (atom_holds xs) atoms ≡ true

@@ -6,9 +6,8 @@ ghost use Rattle.std.specs.Prelude.{◌≡◌, ◌<◌, ◌≤◌, [], ◌∷◌
 ghost use Rattle.cps_literal.specs.declared.atom.Atom.{Atom as AtomOf};
 ghost use Rattle.cps_instance.specs.declared.task.Body.{Body};
 ghost use Rattle.cps_instance.specs.declared.task.Body.TheVariants.{BoolAnd, ExactlyOne, BoolXor};
-ghost use Rattle.cps_instance.specs.Tasks.{HoldsTask};
 ghost use Rattle.cps_trail.specs.Trail.{IsTrueNow, IsFalseNow};
-ghost use Rattle.cps_trail.specs.Notes.{IsReason};
+ghost use Rattle.cps_propagate.specs.Notes.{IsReasonBy};
 ghost use Rattle.cps_p_bool.specs.Seeking.{IsInForce};
 ghost use Rattle.cps_p_bool.specs.Denying.{IsFit, AreLiterals, Denies, GivesAtom, task_of};
 ghost use Rattle.cps_p_bool.specs.Explaining.{IsExplanation, IsRuledOut, AsksForOne};
@@ -47,28 +46,6 @@ pub struct Noted {
 struct Antecedents<'a> {
     enforcement: &'a [Atom],
     used: &'a [Atom],
-}
-
-/// Whether an atom was true.
-fn was_true(past: &Before, atom: Atom) -> bool
-    requires { atom.subject < length past.now.first }
-    ensures { IsTrue result → IsTrueNow past.now atom }
-{
-    match past.truth(atom) {
-        Truth::Yes => true,
-        _ => false,
-    }
-}
-
-/// Whether an atom was false.
-fn was_false(past: &Before, atom: Atom) -> bool
-    requires { atom.subject < length past.now.first }
-    ensures { IsTrue result → IsFalseNow past.now atom }
-{
-    match past.truth(atom) {
-        Truth::No => true,
-        _ => false,
-    }
 }
 
 /// The reason of an atom, if it is the one that the used literals give.
@@ -216,7 +193,7 @@ fn explain_beside(
         return Ok(false);
     }
     let used = [atoms[chosen]];
-    if !was_true(past, used[0]) {
+    if !past.truth(used[0]).is_yes() {
         return Ok(false);
     }
     let given = atoms[place].negate();
@@ -323,7 +300,7 @@ fn deny_failed(
         return Ok(false);
     }
     let used = [atoms[place]];
-    if !was_false(past, used[0]) {
+    if !past.truth(used[0]).is_no() {
         return Ok(false);
     }
     deny_antecedents(reason, past, enforcement, used.as_slice())?;
@@ -369,10 +346,10 @@ fn deny_two(
         return Ok(false);
     }
     let pair = [atoms[first], atoms[second]];
-    if !was_true(past, pair[0]) {
+    if !past.truth(pair[0]).is_yes() {
         return Ok(false);
     }
-    if !was_true(past, pair[1]) {
+    if !past.truth(pair[1]).is_yes() {
         return Ok(false);
     }
     deny_antecedents(reason, past, enforcement, pair.as_slice())?;
@@ -547,7 +524,7 @@ pub fn explain_entry(
     requires live_fits { AreLiterals store.now.first form.now.live.now }
     ensures { result ≡ Ok true → (us : List AtomOf) (b : Body) → AreLiterals store.now.first us
         → IsNormalForm us b form.now.sure.now (body_of form.now.rest form.now.live.now) form.now.live.now
-        → IsReason (HoldsTask (task_of form.now.enforcement.now b)) store.now entry reason.new.items }
+        → IsReasonBy (task_of form.now.enforcement.now b) store.now entry reason.new.items }
 {
     let shown = store.entries()[entry];
     let (place, other) = shown.reason.witness();

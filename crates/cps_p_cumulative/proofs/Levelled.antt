@@ -3,10 +3,10 @@ use Rattle.std.proofs.Common.{ℕ, inl, inr, get_or, take, unsigned_abs, ◌+◌
 use Rattle.std.specs.Prelude.{int_le, Option, Some, None, IfSome, IfOk, Result, Ok, Err}
 use Rattle.std.specs.declared.alloc.AllocError.{AllocError}
 use Rattle.std.specs.Result.{IsErr, is_err}
-use Rattle.std.specs.List.{All}
+use Rattle.std.specs.List.{All, Contains}
 use Rattle.std.proofs.lemmas.Int.{ints}
 use Rattle.std.proofs.lemmas.List.{take_more, take_all}
-use Rattle.std.proofs.lemmas.List.Elements.{All-head, All-tail, All-more}
+use Rattle.std.proofs.lemmas.List.Elements.{All-head, All-tail, All-more, All-contains, All-contains_itself}
 use Rattle.cps_domain.proofs.Tests.{true_le, le_true, le_false, both}
 use Rattle.cps_model.proofs.Inside.{unsigned_abs-neg}
 use Rattle.cps_model.proofs.Sums.{unsigned_abs-add}
@@ -15,7 +15,7 @@ use Rattle.cps_literal.specs.declared.atom.Op.TheVariants.{Le, Ge}
 use Rattle.cps_literal.specs.declared.atom.Truth.{Truth}
 use Rattle.cps_literal.specs.declared.atom.Truth.TheVariants.{Yes, No, Undecided}
 use Rattle.cps_literal.specs.Truth.{meets, value_at, atom_holds}
-use Rattle.cps_instance.specs.Tasks.{HoldsBody}
+use Rattle.cps_instance.specs.Tasks.{HoldsBody, subjects_of_body}
 use Rattle.cps_instance.proofs.Agreeing.{All-append_left, All-append_right}
 use Rattle.cps_trail.specs.Trail.{Trail, Domains, IsTrueNow, IsFalseNow, IsAdmitted}
 use Rattle.cps_propagate.specs.Now.{IsOpenTo, IsFixedNow, AreOpen}
@@ -33,7 +33,7 @@ use Rattle.cps_p_cumulative.specs.Relying.{Relies}
 use Rattle.cps_p_cumulative.proofs.Moves.{moves_all, total-last, toward-none, passed, never_passed}
 use Rattle.cps_p_cumulative.proofs.EventTimes.{zero_limit, has_levels}
 use Rattle.cps_p_cumulative.proofs.Energy.{number_size}
-use Rattle.cps_p_cumulative.proofs.Relied.{Relies-none, Relies-then, Relies-so}
+use Rattle.cps_p_cumulative.proofs.Relied.{Relies-none, Relies-then, Relies-so, Relies-among, one_of}
 
 -- the subjects of an event
 pub on_time : (P : ℕ → Type 0) (m : Move) → All P (move_subjects m) → P m.time
@@ -346,6 +346,7 @@ toward-under side i v w u is-side is e = subst (λ (d : Side). IsTowardBound d i
 pub rest-absent : (first : Domains) (t : ℤ) (m : Move) (u n : Atom) → IsMoveOf first m → m.active ≡ Some u → n.subject ≡ u.subject → ((x : ℤ) → meets n.op n.value x ≡ not (meets u.op u.value x)) → IsRest first t m n
 rest-absent first t m u n inside e same denies = record {
   subject = subst (λ (i : ℕ). i < length first) (sym same) (on_atom (λ i. i < length first) m u e inside);
+  own = subst (λ (i : ℕ). Contains (move_subjects m) i) (sym same) (on_atom (Contains (move_subjects m)) m u e (All-contains_itself (move_subjects m)));
   gives = λ xs holds.
       let a : not (atom_holds xs u) ≡ true = sym (ap (λ (i : ℕ). meets n.op n.value (value_at xs i)) same ∙ denies (value_at xs u.subject)) ∙ holds in
       no_and (is_active xs m.active) (int_le (value_at xs m.time) t) (ap (is_active xs) e ∙ unnot (atom_holds xs u) a);
@@ -359,31 +360,41 @@ rest-absent first t m u n inside e same denies = record {
 pub rest-later : (first : Domains) (t after : ℤ) (m : Move) (u : Atom) → IsMoveOf first m → u ≡ record { subject = m.time; op = Ge; value = after } → t <ℤ after → IsRest first t m u
 rest-later first t after m u inside is l = record {
   subject = subst (λ (a : Atom). a.subject < length first) (sym is) (on_time (λ i. i < length first) m inside);
+  own = subst (λ (a : Atom). Contains (move_subjects m) a.subject) (sym is) (on_time (Contains (move_subjects m)) m (All-contains_itself (move_subjects m)));
   gives = λ xs holds.
       let a = true_le after (value_at xs m.time) (subst (λ (v : Atom). atom_holds xs v ≡ true) is holds) in
       and_false (is_active xs m.active) (int_le (value_at xs m.time) t) (le_false (value_at xs m.time) t (omega (arith, ints)));
 }
 
 -- that an event has taken place
-pub acted-relied : (s : Trail) (a : Atom) (t : ℤ) (m : Move) (u : Atom) (old mid new : List Atom) → u ≡ record { subject = m.time; op = Le; value = t } → Relies s a (λ xs. is_active xs m.active ≡ true) old mid → Relies s a (λ xs. atom_holds xs u ≡ true) mid new
-    → Relies s a (λ xs. has_acted xs t m ≡ true) old new
-acted-relied s a t m u old mid new is h i = Relies-then s a (λ xs. is_active xs m.active ≡ true) (λ xs. atom_holds xs u ≡ true) (λ xs. has_acted xs t m ≡ true) old mid new h i
+pub acted-relied : (s : Trail) (a : Atom) (t : ℤ) (m : Move) (u : Atom) (old mid new : List Atom) → u ≡ record { subject = m.time; op = Le; value = t } → Relies s a (active_subjects m.active) (λ xs. is_active xs m.active ≡ true) old mid → Relies s a (u.subject ∷ []) (λ xs. atom_holds xs u ≡ true) mid new
+    → Relies s a (move_subjects m) (λ xs. has_acted xs t m ≡ true) old new
+acted-relied s a t m u old mid new is h i = Relies-then s a (move_subjects m) (λ xs. is_active xs m.active ≡ true) (λ xs. atom_holds xs u ≡ true) (λ xs. has_acted xs t m ≡ true) old mid new
+    (Relies-among s a (active_subjects m.active) (move_subjects m) (λ xs. is_active xs m.active ≡ true) old mid (λ js all. All-tail (Contains js) m.change (active_subjects m.active) (All-tail (Contains js) m.time (m.change ∷ active_subjects m.active) all)) h)
+    (Relies-among s a (u.subject ∷ []) (move_subjects m) (λ xs. atom_holds xs u ≡ true) mid new (λ js all. one_of js m.time u.subject (ap (λ (v : Atom). v.subject) is) (on_time (Contains js) m all)) i)
     (λ xs w b c. both (is_active xs m.active) (int_le (value_at xs m.time) t) b (subst (λ (v : Atom). atom_holds xs v ≡ true) is c))
 
+-- the subjects of one event
+pub own_move : (k : Tank) (j : ℕ) (m : Move) → j < length (moves_of k) → m ≡ get_or (moves_of k) j m → (is : List ℕ) → All (Contains is) (subjects_of_body (tank_body k)) → All (Contains is) (move_subjects m)
+own_move k j m l e is all = subst (λ (n : Move). All (Contains is) (move_subjects n)) (sym e) (moves_all (Contains is) k all j m l)
+
 -- what one event adds
-pub added-least : (s : Trail) (a : Atom) (side : Side) (t v had : ℤ) (m : Move) (u : Atom) (old new : List Atom) → had ≡ v → had ≤ℤ pos 0 → IsTowardBound side m.change had u → Relies s a (λ xs. atom_holds xs u ≡ true) old new
-    → Relies s a (IsAdded side t m v) old new
-added-least s a side t v had m u old new e low bound h = Relies-so s a (λ xs. atom_holds xs u ≡ true) (IsAdded side t m v) old new h
+pub added-least : (s : Trail) (a : Atom) (side : Side) (t v had : ℤ) (m : Move) (u : Atom) (old new : List Atom) → had ≡ v → had ≤ℤ pos 0 → IsTowardBound side m.change had u → Relies s a (u.subject ∷ []) (λ xs. atom_holds xs u ≡ true) old new
+    → Relies s a (move_subjects m) (IsAdded side t m v) old new
+added-least s a side t v had m u old new e low bound h = Relies-so s a (move_subjects m) (λ xs. atom_holds xs u ≡ true) (IsAdded side t m v) old new
+    (Relies-among s a (u.subject ∷ []) (move_subjects m) (λ xs. atom_holds xs u ≡ true) old new (λ js all. one_of js m.change u.subject bound.subject (on_change (Contains js) m all)) h)
     (λ xs w b. record { added = subst (λ (x : ℤ). x ≤ℤ share_of side xs t m) e (at_least_share side xs t had m (bound.gives xs b) low) })
 
 -- nothing, where it rests
-pub added-rest : (s : Trail) (a : Atom) (side : Side) (t v : ℤ) (m : Move) (u : Atom) (old new : List Atom) → pos 0 ≡ v → IsRest s.first t m u → Relies s a (λ xs. atom_holds xs u ≡ true) old new → Relies s a (IsAdded side t m v) old new
-added-rest s a side t v m u old new e rest h = Relies-so s a (λ xs. atom_holds xs u ≡ true) (IsAdded side t m v) old new h
+pub added-rest : (s : Trail) (a : Atom) (side : Side) (t v : ℤ) (m : Move) (u : Atom) (old new : List Atom) → pos 0 ≡ v → IsRest s.first t m u → Relies s a (u.subject ∷ []) (λ xs. atom_holds xs u ≡ true) old new → Relies s a (move_subjects m) (IsAdded side t m v) old new
+added-rest s a side t v m u old new e rest h = Relies-so s a (move_subjects m) (λ xs. atom_holds xs u ≡ true) (IsAdded side t m v) old new
+    (Relies-among s a (u.subject ∷ []) (move_subjects m) (λ xs. atom_holds xs u ≡ true) old new (λ js all. one_of js u.subject u.subject refl (All-contains (Contains js) (move_subjects m) u.subject all rest.own)) h)
     (λ xs w b. record { added = (let f = share_rests side xs t m (rest.gives xs b) in omega (arith, ints)) })
 
-pub added-acted : (s : Trail) (a : Atom) (side : Side) (t v had : ℤ) (m : Move) (u : Atom) (old mid new : List Atom) → had ≡ v → IsTowardBound side m.change had u → Relies s a (λ xs. atom_holds xs u ≡ true) old mid → Relies s a (λ xs. has_acted xs t m ≡ true) mid new
-    → Relies s a (IsAdded side t m v) old new
-added-acted s a side t v had m u old mid new e bound h i = Relies-then s a (λ xs. atom_holds xs u ≡ true) (λ xs. has_acted xs t m ≡ true) (IsAdded side t m v) old mid new h i
+pub added-acted : (s : Trail) (a : Atom) (side : Side) (t v had : ℤ) (m : Move) (u : Atom) (old mid new : List Atom) → had ≡ v → IsTowardBound side m.change had u → Relies s a (u.subject ∷ []) (λ xs. atom_holds xs u ≡ true) old mid → Relies s a (move_subjects m) (λ xs. has_acted xs t m ≡ true) mid new
+    → Relies s a (move_subjects m) (IsAdded side t m v) old new
+added-acted s a side t v had m u old mid new e bound h i = Relies-then s a (move_subjects m) (λ xs. atom_holds xs u ≡ true) (λ xs. has_acted xs t m ≡ true) (IsAdded side t m v) old mid new
+    (Relies-among s a (u.subject ∷ []) (move_subjects m) (λ xs. atom_holds xs u ≡ true) old mid (λ js all. one_of js m.change u.subject bound.subject (on_change (Contains js) m all)) h) i
     (λ xs w b c. record { added = (let f = share_acted side xs t m c in let l = bound.gives xs b in omega (arith, ints)) })
 
 -- the number of an answer
@@ -391,9 +402,10 @@ pub some_number : (x v : ℤ) → ◌≡◌ {A = Result (Option ℤ) AllocError}
 some_number x v e = cc
 
 -- what events add
-pub added-more : (s : Trail) (a : Atom) (side : Side) (t : ℤ) (ms : List Move) (k : ℕ) (m : Move) (v w x : ℤ) (old mid new : List Atom) → k < length ms → m ≡ get_or ms k m
-    → Relies s a (AreAdded side t (take k ms) v) old mid → Relies s a (IsAdded side t m w) mid new → x ≡ v +ℤ w → Relies s a (AreAdded side t (take (k + 1) ms) x) old new
-added-more s a side t ms k m v w x old mid new l is h i e = Relies-then s a (AreAdded side t (take k ms) v) (IsAdded side t m w) (AreAdded side t (take (k + 1) ms) x) old mid new h i
+pub added-more : (s : Trail) (a : Atom) (among : List ℕ) (side : Side) (t : ℤ) (ms : List Move) (k : ℕ) (m : Move) (v w x : ℤ) (old mid new : List Atom) → k < length ms → m ≡ get_or ms k m → ((is : List ℕ) → All (Contains is) among → All (Contains is) (move_subjects m))
+    → Relies s a among (AreAdded side t (take k ms) v) old mid → Relies s a (move_subjects m) (IsAdded side t m w) mid new → x ≡ v +ℤ w → Relies s a among (AreAdded side t (take (k + 1) ms) x) old new
+added-more s a among side t ms k m v w x old mid new l is part h i e = Relies-then s a among (AreAdded side t (take k ms) v) (IsAdded side t m w) (AreAdded side t (take (k + 1) ms) x) old mid new h
+    (Relies-among s a (move_subjects m) among (IsAdded side t m w) mid new part i)
     (λ xs u b c. record {
       added =
           let f : total side xs t (take (k + 1) ms) ≡ total side xs t (take k ms) +ℤ share_of side xs t m =
@@ -403,18 +415,19 @@ added-more s a side t ms k m v w x old mid new l is h i e = Relies-then s a (Are
           omega (arith, ints);
     })
 
-pub added-all : (s : Trail) (a : Atom) (side : Side) (t : ℤ) (ms : List Move) (k : ℕ) (x v : ℤ) (old new : List Atom) → length ms ≤ k → Relies s a (AreAdded side t (take k ms) x) old new → x ≡ v → Relies s a (AreAdded side t ms v) old new
-added-all s a side t ms k x v old new l h e = subst (λ (y : ℤ). Relies s a (AreAdded side t ms y) old new) e (subst (λ (ns : List Move). Relies s a (AreAdded side t ns x) old new) (take_all k ms l) h)
+pub added-all : (s : Trail) (a : Atom) (among : List ℕ) (side : Side) (t : ℤ) (ms : List Move) (k : ℕ) (x v : ℤ) (old new : List Atom) → length ms ≤ k → Relies s a among (AreAdded side t (take k ms) x) old new → x ≡ v → Relies s a among (AreAdded side t ms v) old new
+added-all s a among side t ms k x v old new l h e = subst (λ (y : ℤ). Relies s a among (AreAdded side t ms y) old new) e (subst (λ (ns : List Move). Relies s a among (AreAdded side t ns x) old new) (take_all k ms l) h)
 
 -- what passes a limit
-pub passed-room : (s : Trail) (a : Atom) (k : Tank) (side : Side) (t v lim : ℤ) (old new : List Atom) → lim ≡ limit k side → lim <ℤ v → pos 0 ≤ℤ lim → Relies s a (AreAdded side t (moves_of k) v) old new
-    → Relies s a (λ xs. HoldsBody (tank_body k) xs → ⊥) old new
-passed-room s a k side t v lim old new same over room h = Relies-so s a (AreAdded side t (moves_of k) v) (λ xs. HoldsBody (tank_body k) xs → ⊥) old new h
+pub passed-room : (s : Trail) (a : Atom) (k : Tank) (side : Side) (t v lim : ℤ) (old new : List Atom) → lim ≡ limit k side → lim <ℤ v → pos 0 ≤ℤ lim → Relies s a (subjects_of_body (tank_body k)) (AreAdded side t (moves_of k) v) old new
+    → Relies s a (subjects_of_body (tank_body k)) (λ xs. HoldsBody (tank_body k) xs → ⊥) old new
+passed-room s a k side t v lim old new same over room h = Relies-so s a (subjects_of_body (tank_body k)) (AreAdded side t (moves_of k) v) (λ xs. HoldsBody (tank_body k) xs → ⊥) old new h
     (λ xs w b. (let p = b.added in passed k side xs t (omega (arith, ints)) (inl (omega (arith, ints)))))
 
 pub passed-begun : (s : Trail) (a : Atom) (k : Tank) (side : Side) (t v lim : ℤ) (j : ℕ) (m : Move) (old mid new : List Atom) → lim ≡ limit k side → lim <ℤ v → j < length (moves_of k) → m ≡ get_or (moves_of k) j m
-    → Relies s a (AreAdded side t (moves_of k) v) old mid → Relies s a (λ xs. has_acted xs t m ≡ true) mid new → Relies s a (λ xs. HoldsBody (tank_body k) xs → ⊥) old new
-passed-begun s a k side t v lim j m old mid new same over l is h i = Relies-then s a (AreAdded side t (moves_of k) v) (λ xs. has_acted xs t m ≡ true) (λ xs. HoldsBody (tank_body k) xs → ⊥) old mid new h i
+    → Relies s a (subjects_of_body (tank_body k)) (AreAdded side t (moves_of k) v) old mid → Relies s a (move_subjects m) (λ xs. has_acted xs t m ≡ true) mid new → Relies s a (subjects_of_body (tank_body k)) (λ xs. HoldsBody (tank_body k) xs → ⊥) old new
+passed-begun s a k side t v lim j m old mid new same over l is h i = Relies-then s a (subjects_of_body (tank_body k)) (AreAdded side t (moves_of k) v) (λ xs. has_acted xs t m ≡ true) (λ xs. HoldsBody (tank_body k) xs → ⊥) old mid new h
+    (Relies-among s a (move_subjects m) (subjects_of_body (tank_body k)) (λ xs. has_acted xs t m ≡ true) mid new (own_move k j m l is) i)
     (λ xs w b c. (let p = b.added in passed k side xs t (omega (arith, ints)) (inr (record { place = j; event = m; within = l; acted = subst (λ (n : Move). has_acted xs t n ≡ true) is c }))))
 
 pub active_inside : (first : Domains) (m : Move) → IsMoveOf first m → IfSome m.active (λ u. u.subject < length first)
@@ -425,11 +438,11 @@ active_inside first m h = by m.active (All-tail (λ i. i < length first) m.chang
     by (Some u) all = All-head (λ i. i < length first) u.subject [] all
 
 -- that an event takes place
-pub active-relied : (s : Trail) (a u : Atom) (o : Option Atom) (old new : List Atom) → o ≡ Some u → Relies s a (λ xs. atom_holds xs u ≡ true) old new → Relies s a (λ xs. is_active xs o ≡ true) old new
-active-relied s a u o old new e h = subst (λ (p : Option Atom). Relies s a (λ xs. is_active xs p ≡ true) old new) (sym e) h
+pub active-relied : (s : Trail) (a u : Atom) (o : Option Atom) (old new : List Atom) → o ≡ Some u → Relies s a (u.subject ∷ []) (λ xs. atom_holds xs u ≡ true) old new → Relies s a (active_subjects o) (λ xs. is_active xs o ≡ true) old new
+active-relied s a u o old new e h = subst (λ (p : Option Atom). Relies s a (active_subjects p) (λ xs. is_active xs p ≡ true) old new) (sym e) h
 
-pub active-free : (s : Trail) (a : Atom) (o : Option Atom) (us : List Atom) → o ≡ None → AreFacts s us → Relies s a (λ xs. is_active xs o ≡ true) us us
-active-free s a o us e f = subst (λ (p : Option Atom). Relies s a (λ xs. is_active xs p ≡ true) us us) (sym e) (Relies-none s a (λ xs. is_active xs None ≡ true) us f (λ xs w b. refl))
+pub active-free : (s : Trail) (a : Atom) (o : Option Atom) (us : List Atom) → o ≡ None → AreFacts s us → Relies s a (active_subjects o) (λ xs. is_active xs o ≡ true) us us
+active-free s a o us e f = subst (λ (p : Option Atom). Relies s a (active_subjects p) (λ xs. is_active xs p ≡ true) us us) (sym e) (Relies-none s a [] (λ xs. is_active xs None ≡ true) us f (λ xs w b. refl))
 
 pub ok_true : (r : Result Bool AllocError) (b : Bool) → r ≡ Ok b → b ≡ true → r ≡ Ok true
 ok_true r b e f = e ∙ ap (λ v. Ok v) f

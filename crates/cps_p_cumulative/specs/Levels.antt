@@ -1,5 +1,5 @@
 -- What events do to a level at a time and a list of values.
-use Rattle.std.specs.Prelude.{◌≡◌, ◌⊎◌, ℕ, ◌<◌, ◌≤◌, ◌^◌, ℤ, pos, neg_ℤ, ◌+ℤ◌, ◌≤ℤ◌, ◌<ℤ◌, unsigned_abs, int_le, Bool, true, false, ◌&&◌, if◌then◌else◌, Option, Some, None, List, [], ◌∷◌, length, take, All}
+use Rattle.std.specs.Prelude.{◌≡◌, ◌⊎◌, ℕ, ◌<◌, ◌≤◌, ◌^◌, ℤ, pos, neg_ℤ, ◌+ℤ◌, ◌≤ℤ◌, ◌<ℤ◌, unsigned_abs, int_le, Bool, true, false, ◌&&◌, if◌then◌else◌, Option, Some, None, List, [], ◌∷◌, length, take, All, Contains}
 use Rattle.cps_literal.specs.declared.atom.Atom.{Atom}
 use Rattle.cps_literal.specs.Truth.{value_at, atom_holds}
 use Rattle.cps_instance.specs.declared.task.Body.{Body}
@@ -172,6 +172,7 @@ pub record IsTowardBound (side : Side) (i : ℕ) (v : ℤ) (u : Atom) : Type 0 w
 -- an atom says that an event has not taken place by a time
 pub record IsRest (first : Domains) (t : ℤ) (m : Move) (u : Atom) : Type 0 where
   pub subject : u.subject < length first
+  pub own : Contains (move_subjects m) u.subject
   pub gives : (xs : List ℤ) → atom_holds xs u ≡ true → has_acted xs t m ≡ false
 
 -- an event adds so much towards a side by a time, or more

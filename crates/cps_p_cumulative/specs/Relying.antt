@@ -1,5 +1,5 @@
 -- What facts of a store give beside an atom that is assumed.
-use Rattle.std.specs.Prelude.{◌≡◌, ℕ, ◌<◌, ℤ, pos, ◌+ℤ◌, ◌-ℤ◌, ◌≤ℤ◌, ◌<ℤ◌, unsigned_abs, true, Option, Some, None, List, length, drop}
+use Rattle.std.specs.Prelude.{◌≡◌, ℕ, ◌<◌, ℤ, pos, ◌+ℤ◌, ◌-ℤ◌, ◌≤ℤ◌, ◌<ℤ◌, unsigned_abs, true, Option, Some, None, List, length, drop, All, Contains}
 use Rattle.std.specs.List.{list_all}
 use Rattle.cps_literal.specs.declared.atom.Atom.{Atom}
 use Rattle.cps_literal.specs.declared.atom.Op.TheVariants.{Ge}
@@ -7,15 +7,17 @@ use Rattle.cps_literal.specs.Truth.{value_at, atom_holds}
 use Rattle.cps_instance.specs.declared.task.Span.{Span}
 use Rattle.cps_instance.specs.Parts.{span_end}
 use Rattle.cps_trail.specs.Trail.{Trail, IsWithin, IsInside}
+use Rattle.cps_propagate.specs.Reasons.{SpeaksOf}
 use Rattle.cps_rule.specs.Rules.{AreFacts, AllTrueAt}
 use Rattle.cps_p_cumulative.specs.declared.charge.Claim.{Claim}
 use Rattle.cps_p_cumulative.specs.declared.charge.Stay.{Stay}
 use Rattle.cps_p_cumulative.specs.Running.{IsTimeOf, energy_of, energies}
 
--- A list of facts grew by what gives a thing where the assumed atom is true too.
-pub record Relies (s : Trail) (assumed : Atom) (P : List ℤ → Type 0) (old new : List Atom) : Type 0 where
+-- A list of facts grew, by some about these subjects, by what gives a thing where the assumed atom is true too.
+pub record Relies (s : Trail) (assumed : Atom) (among : List ℕ) (P : List ℤ → Type 0) (old new : List Atom) : Type 0 where
   pub facts : AreFacts s new
   pub kept : (xs : List ℤ) → AllTrueAt xs new → AllTrueAt xs old
+  pub about : (is : List ℕ) → All (Contains is) among → SpeaksOf is old → SpeaksOf is new
   pub gives : (xs : List ℤ) → IsWithin s.first xs → AllTrueAt xs new → atom_holds xs assumed ≡ true → P xs
 
 -- an atom that says that a subject is at least a number

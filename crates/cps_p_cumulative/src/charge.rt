@@ -6,10 +6,10 @@
 //! what was narrowed, so that a span that would run there if it were not pushed counts like any other, and the atoms of
 //! its that the denial gives are no facts. A span counts for no more times than are needed, so its bounds are as loose
 //! as may be. In the time table the window is one time; a span then counts where it surely runs.
-ghost use Rattle.std.specs.Prelude.{◌≡◌, ◌<◌, ◌*ℤ◌, ◌-ℤ◌, ◌≤ℤ◌, ℤ, pos, unsigned_abs, true, IsTrue, All, length, IfSome, Ok, Some};
+ghost use Rattle.std.specs.Prelude.{[], ◌∷◌, ◌++◌, ◌≡◌, ◌<◌, ◌*ℤ◌, ◌-ℤ◌, ◌≤ℤ◌, ℤ, pos, unsigned_abs, true, IsTrue, All, length, IfSome, Ok, Some};
 ghost use Rattle.cps_literal.specs.Truth.{atom_holds};
 ghost use Rattle.cps_trail.specs.Trail.{IsInside};
-ghost use Rattle.cps_instance.specs.Tasks.{HoldsBody};
+ghost use Rattle.cps_instance.specs.Tasks.{HoldsBody, atom_subjects, subjects_of_span, span_subjects, subjects_of_body};
 ghost use Rattle.cps_rule.specs.Rules.{AreFacts};
 ghost use Rattle.cps_p_cumulative.specs.Running.{IsSpanOf, IsResourceOf, body_of, energy_of, energies};
 ghost use Rattle.cps_p_cumulative.specs.Relying.{Relies, IsBound, IsLater, IsStay, IsClaim, IsActiveBetween, IsEnergyTaken};
@@ -86,7 +86,7 @@ pub(crate) fn rely(
 ) -> Result<bool, AllocError>
     requires subject { atom.subject < length past.now.first }
     requires facts { AreFacts past.now facts.old.items }
-    ensures { result ≡ Ok true → Relies past.now case.assumed
+    ensures { result ≡ Ok true → Relies past.now case.assumed (atom.subject ∷ [])
         (λ xs. atom_holds xs atom ≡ true) facts.old.items facts.new.items }
 {
     if case.assumed.implies(atom) {
@@ -114,7 +114,7 @@ fn rely_all(
 ) -> Result<bool, AllocError>
     requires subjects { All (λ u. u.subject < length past.now.first) atoms.now }
     requires facts { AreFacts past.now facts.old.items }
-    ensures { result ≡ Ok true → Relies past.now case.assumed
+    ensures { result ≡ Ok true → Relies past.now case.assumed (atom_subjects atoms.now)
         (λ xs. All (λ u. atom_holds xs u ≡ true) atoms.now) facts.old.items facts.new.items }
 {
     for atom in atoms {
@@ -155,7 +155,7 @@ fn rely_run(
 ) -> Result<bool, AllocError>
     requires span { IsSpanOf past.now.first span.now }
     requires facts { AreFacts past.now facts.old.items }
-    ensures { result ≡ Ok true → Relies past.now case.assumed
+    ensures { result ≡ Ok true → Relies past.now case.assumed (subjects_of_span span.now)
         (IsActiveBetween stay.latest stay.after span.now) facts.old.items facts.new.items }
 {
     let Some(last) = later(stay.after, span) else {
@@ -339,7 +339,7 @@ fn rely_claim(
     requires demand { load.now.demand < length past.now.first }
     requires claim { IsClaim case.time case.width load.now.span.now.length claim }
     requires facts { AreFacts past.now facts.old.items }
-    ensures { result ≡ Ok true → Relies past.now case.assumed
+    ensures { result ≡ Ok true → Relies past.now case.assumed (load.now.demand ∷ subjects_of_span load.now.span.now)
         (λ xs. (claim.stay.ticks *ℤ claim.demand) ≤ℤ energy_of xs case.time
         (unsigned_abs case.width) load.now.span.now load.now.demand) facts.old.items facts.new.items }
 {
@@ -363,7 +363,7 @@ fn charge_one(
     requires facts { AreFacts past.now facts.old.items }
     ensures falls { (after : ℤ) → result ≡ Ok (Some after) → (pos 0 ≤ℤ after) × (after ≤ℤ left) }
     ensures charged { (after : ℤ) → result ≡ Ok (Some after)
-        → Relies past.now case.assumed
+        → Relies past.now case.assumed (load.now.demand ∷ subjects_of_span load.now.span.now)
         (IsEnergyTaken case.time case.width load.now.span.now load.now.demand left after) facts.old.items facts.new.items }
 {
     let Some(claim) = claim_of(past, case, load, left) else {
@@ -389,7 +389,7 @@ fn charge_all(
     requires resource { IsResourceOf past.now.first resource.now }
     requires need { pos 0 ≤ℤ need }
     requires facts { AreFacts past.now facts.old.items }
-    ensures { result ≡ Ok true → Relies past.now case.assumed
+    ensures { result ≡ Ok true → Relies past.now case.assumed (span_subjects resource.now.spans ++ resource.now.demands)
         (λ xs. need ≤ℤ energies xs case.time
         (unsigned_abs case.width) resource.now.spans resource.now.demands) facts.old.items facts.new.items }
 {
@@ -422,7 +422,7 @@ pub(crate) fn charge(
 ) -> Result<bool, AllocError>
     requires resource { IsResourceOf past.now.first resource.now }
     requires facts { AreFacts past.now facts.old.items }
-    ensures { result ≡ Ok true → Relies past.now case.assumed
+    ensures { result ≡ Ok true → Relies past.now case.assumed (subjects_of_body (body_of resource.now))
         (λ xs. HoldsBody (body_of resource.now) xs → ⊥) facts.old.items facts.new.items }
 {
     let most = greatest(past, case, resource.capacity);

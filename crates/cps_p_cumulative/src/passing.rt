@@ -5,9 +5,9 @@
 //! that adds counts where it is seen to take place by the time, one that takes away is left out where it is seen not
 //! to, and of any other the change alone is bounded.
 ghost use Rattle.std.specs.Prelude.{◌≡◌, ◌<◌, ◌+ℤ◌, true, false, ℤ, length, IfSome, Ok, Some};
-ghost use Rattle.cps_instance.specs.Tasks.{HoldsBody};
+ghost use Rattle.cps_instance.specs.Tasks.{HoldsBody, subjects_of_body};
 ghost use Rattle.cps_rule.specs.Rules.{AreFacts};
-ghost use Rattle.cps_p_cumulative.specs.Levels.{IsMoveOf, IsTankOf, IsTowardBound, IsAdded, AreAdded, IsRest, is_active, has_acted, moves_of, tank_body};
+ghost use Rattle.cps_p_cumulative.specs.Levels.{IsMoveOf, IsTankOf, IsTowardBound, IsAdded, AreAdded, IsRest, is_active, has_acted, active_subjects, move_subjects, moves_of, tank_body};
 ghost use Rattle.cps_p_cumulative.specs.Relying.{Relies};
 
 use crate::charge::{Case, at_least, at_most, is_inside, is_known, rely};
@@ -60,7 +60,7 @@ fn rely_active(
 ) -> Result<bool, AllocError>
     requires subject { IfSome active (λ u. u.subject < length past.now.first) }
     requires facts { AreFacts past.now facts.old.items }
-    ensures { result ≡ Ok true → Relies past.now case.assumed
+    ensures { result ≡ Ok true → Relies past.now case.assumed (active_subjects active)
         (λ xs. is_active xs active ≡ true) facts.old.items facts.new.items }
 {
     match active {
@@ -78,7 +78,7 @@ fn rely_acted(
 ) -> Result<bool, AllocError>
     requires event { IsMoveOf past.now.first event.now }
     requires facts { AreFacts past.now facts.old.items }
-    ensures { result ≡ Ok true → Relies past.now case.assumed
+    ensures { result ≡ Ok true → Relies past.now case.assumed (move_subjects event.now)
         (λ xs. has_acted xs case.time event.now ≡ true) facts.old.items facts.new.items }
 {
     if !rely_active(past, case, event.active, facts)? {
@@ -181,7 +181,8 @@ fn charge_move(
     requires event { IsMoveOf past.now.first event.now }
     requires facts { AreFacts past.now facts.old.items }
     ensures { (v : ℤ) → result ≡ Ok (Some v)
-        → Relies past.now case.assumed (IsAdded side case.time event.now v) facts.old.items facts.new.items }
+        → Relies past.now case.assumed (move_subjects event.now)
+        (IsAdded side case.time event.now v) facts.old.items facts.new.items }
 {
     let counted = seeming_share(past, case, side, event);
     if let Some(rest) = rest_of(past, case, event, counted) {
@@ -229,7 +230,8 @@ fn charge_moves(
     requires tank { IsTankOf past.now.first tank.now }
     requires facts { AreFacts past.now facts.old.items }
     ensures { (v : ℤ) → result ≡ Ok (Some v)
-        → Relies past.now case.assumed (AreAdded side case.time (moves_of tank.now) v) facts.old.items facts.new.items }
+        → Relies past.now case.assumed (subjects_of_body (tank_body tank.now))
+        (AreAdded side case.time (moves_of tank.now) v) facts.old.items facts.new.items }
 {
     let mut sum: i128 = 0;
     for k in 0..tank.count() {
@@ -254,7 +256,7 @@ pub(crate) fn charge_level(
 ) -> Result<bool, AllocError>
     requires tank { IsTankOf past.now.first tank.now }
     requires facts { AreFacts past.now facts.old.items }
-    ensures { result ≡ Ok true → Relies past.now case.assumed
+    ensures { result ≡ Ok true → Relies past.now case.assumed (subjects_of_body (tank_body tank.now))
         (λ xs. HoldsBody (tank_body tank.now) xs → ⊥) facts.old.items facts.new.items }
 {
     let limit = tank.limit(point.side);

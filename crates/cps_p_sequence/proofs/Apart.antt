@@ -12,6 +12,9 @@ use Rattle.cps_literal.specs.Truth.{value_at}
 use Rattle.cps_instance.specs.declared.task.Body.{Body}
 use Rattle.cps_instance.specs.declared.task.Body.TheVariants.{AllDiff, Inverse}
 use Rattle.cps_instance.specs.Parts.{values_at}
+use Rattle.cps_instance.specs.Tasks.{subjects_of_body}
+use Rattle.cps_propagate.proofs.Speaking.{speaks_among}
+use Rattle.cps_p_sequence.proofs.Growing.{among_left, among_right}
 use Rattle.cps_instance.specs.Terms.{Domains, AreIntervals, domain_at}
 use Rattle.cps_instance.proofs.Agreeing.{All-append_left, All-append_right}
 use Rattle.cps_trail.specs.Trail.{Trail, IsTrueNow}
@@ -54,10 +57,10 @@ even_values xs ds js same = length-map ds (value_at xs) ∙ same ∙ sym (length
 
 module _ (ds js : List ℕ) (same : length ds ≡ length js) where
   pub implies_direct : ImpliesBody (Inverse ds js) (AllDiff ds)
-  implies_direct = record { at = λ xs h. direct_differ (values_at xs ds) (values_at xs js) (even_values xs ds js same) h }
+  implies_direct = record { subjects = among_left ds js; at = λ xs h. direct_differ (values_at xs ds) (values_at xs js) (even_values xs ds js same) h }
 
   pub implies_inverse : ImpliesBody (Inverse ds js) (AllDiff js)
-  implies_inverse = record { at = λ xs h. inverse_differ (values_at xs ds) (values_at xs js) (even_values xs ds js same) h }
+  implies_inverse = record { subjects = among_right ds js; at = λ xs h. inverse_differ (values_at xs ds) (values_at xs js) (even_values xs ds js same) h }
 
 -- what one body gives, a body gives that implies it
 module _ (b p : Body) (implies : ImpliesBody b p) (s : Trail) where
@@ -68,10 +71,10 @@ module _ (b p : Body) (implies : ImpliesBody b p) (s : Trail) where
   implied_impossible no' = record { at = λ xs admitted h. no'.at xs admitted (implies.at xs h) }
 
   pub implied_explained : (t : Atom) (facts : List Atom) → IsExplained p s t facts → IsExplained b s t facts
-  implied_explained t facts e = record { facts = e.facts; gives = λ xs within all h. e.gives xs within all (implies.at xs h) }
+  implied_explained t facts e = record { facts = e.facts; speaks = speaks_among (subjects_of_body p) (subjects_of_body b) facts implies.subjects e.speaks; gives = λ xs within all h. e.gives xs within all (implies.at xs h) }
 
   pub implied_refuted : (facts : List Atom) → IsRefuted p s facts → IsRefuted b s facts
-  implied_refuted facts e = record { facts = e.facts; excludes = λ xs within all h. e.excludes xs within all (implies.at xs h) }
+  implied_refuted facts e = record { facts = e.facts; speaks = speaks_among (subjects_of_body p) (subjects_of_body b) facts implies.subjects e.speaks; excludes = λ xs within all h. e.excludes xs within all (implies.at xs h) }
 
   pub implied_denied : (l : Look) → IsSeen p s l → IsSeenImpossible b s l
   implied_denied Possible h = tt

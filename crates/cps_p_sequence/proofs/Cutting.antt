@@ -1,9 +1,10 @@
 -- Where labels lead beside facts, and what a cut gives.
-use Rattle.std.specs.Prelude.{not}
-use Rattle.std.proofs.Common.{◌≡◌, inl, inr, ℕ, zero, suc, ◌+◌, ◌<◌, ◌≤◌, ℤ, Bool, true, false, Option, List, [], length, drop, get_or, set, refl, sym, ◌∙◌, ap, subst, arith}
+use Rattle.std.specs.Prelude.{not, Contains}
+use Rattle.std.proofs.Common.{◌≡◌, inl, inr, ℕ, zero, suc, ◌+◌, ◌<◌, ◌≤◌, ℤ, Bool, true, false, Option, List, [], ◌∷◌, length, drop, get_or, set, refl, sym, ◌∙◌, ap, subst, arith}
 use Rattle.std.proofs.lemmas.Int.{ints}
 use Rattle.std.proofs.lemmas.Bool.{cases_lt}
 use Rattle.std.proofs.lemmas.List.{drop_all, length-set}
+use Rattle.std.proofs.lemmas.List.Elements.{All-nil, All-cons, Contains-get_or}
 use Rattle.cps_domain.specs.Window.{equals}
 use Rattle.cps_model.specs.declared.parts.Transition.{Transition}
 use Rattle.cps_model.specs.Sequences.{transitions, Accepts}
@@ -22,7 +23,7 @@ use Rattle.cps_p_sequence.specs.Facts.{MeetsBound}
 use Rattle.cps_rule.specs.Facts.{Grows, Denied, GivesGoal}
 use Rattle.cps_p_sequence.specs.Cuts.{IsOut, IsLimited, LeadsToState, Comes, AreCome, IsCut}
 use Rattle.cps_p_sequence.proofs.Numbering.{marked_here, marked_still, marked_within}
-use Rattle.cps_p_sequence.proofs.Growing.{grows_trans, no_facts}
+use Rattle.cps_p_sequence.proofs.Growing.{grows_trans, no_facts, none_speaks}
 use Rattle.cps_p_sequence.proofs.Layering.{last_or, item_at}
 use Rattle.cps_p_sequence.proofs.Running.{step_at, within_of}
 
@@ -50,30 +51,30 @@ high_out goal us i limits v off h = record { at = λ xs all deny e. off (value_a
 pub hole_out : (goal : Option Atom) (us : List Atom) (i : ℕ) (v : ℤ) (u : Atom) → u ≡ record { subject = i; op = Ne; value = v } → ((xs : List ℤ) → AllTrueAt xs us → atom_holds xs u ≡ true) → IsOut goal us i v
 hole_out goal us i v u same h = record { at = λ xs all deny e. off_it v (value_at xs i) (ap (λ (w : Atom). atom_holds xs w) (sym same) ∙ h xs all) e }
 
-pub limited_still : (s : Trail) (old new : List Atom) (i : ℕ) (limits : Limits) → Grows s old new → IsLimited old i limits → IsLimited new i limits
+pub limited_still : (s : Trail) (old new : List Atom) (i : ℕ) (limits : Limits) → Grows s (i ∷ []) old new → IsLimited old i limits → IsLimited new i limits
 limited_still s old new i limits g h = record { low = λ xs all. h.low xs (g.kept xs all); high = λ xs all. h.high xs (g.kept xs all) }
 
 -- layer by layer
 module _ (s : Trail) (goal : Option Atom) (i : ℕ) (steps : List Step) (tails : List Bool) (start : List Atom) where
-  pub comes_begun : (row : List Bool) (new : List Atom) → length row ≡ length tails → Grows s start new → Comes s goal i steps 0 tails row start new
+  pub comes_begun : (row : List Bool) (new : List Atom) → length row ≡ length tails → Grows s (i ∷ []) start new → Comes s goal i steps 0 tails row start new
   comes_begun row new size g = record { size = size; grows = g; all = λ xs all deny k d l m e h. absurd (omega arith) }
 
-  pub comes_passed : (n : ℕ) (row : List Bool) (old new : List Atom) (t : Step) → n < length steps → t ≡ get_or steps n t → Grows s old new → (IsMarked tails t.tail → IsOut goal new i t.label)
+  pub comes_passed : (n : ℕ) (row : List Bool) (old new : List Atom) (t : Step) → n < length steps → t ≡ get_or steps n t → Grows s (i ∷ []) old new → (IsMarked tails t.tail → IsOut goal new i t.label)
       → Comes s goal i steps n tails row start old → Comes s goal i steps (n + 1) tails row start new
   comes_passed n row old new t l is g none p = record {
     size = p.size;
-    grows = grows_trans s start old new p.grows g;
+    grows = grows_trans s (i ∷ []) start old new p.grows g;
     all = λ xs all deny k d m o. elim (last_or k n m) [
       | inl q ↦ p.all xs (g.kept xs all) deny k d q o
       | inr q ↦ subst (λ (x : Step). x.label ≡ value_at xs i → IsMarked tails x.tail → IsMarked row x.head) (item_at steps k n d t l is q) (λ e h. absurd ((none h).at xs all deny (sym e)))
     ];
   }
 
-  pub comes_marked : (n : ℕ) (old-row new-row : List Bool) (old new : List Atom) (t : Step) → n < length steps → t ≡ get_or steps n t → Grows s old new → t.head < length old-row → new-row ≡ set old-row t.head true
+  pub comes_marked : (n : ℕ) (old-row new-row : List Bool) (old new : List Atom) (t : Step) → n < length steps → t ≡ get_or steps n t → Grows s (i ∷ []) old new → t.head < length old-row → new-row ≡ set old-row t.head true
       → Comes s goal i steps n tails old-row start old → Comes s goal i steps (n + 1) tails new-row start new
   comes_marked n old-row new-row old new t l is g room e p = record {
     size = ap (λ (r : List Bool). length r) e ∙ length-set old-row t.head true ∙ p.size;
-    grows = grows_trans s start old new p.grows g;
+    grows = grows_trans s (i ∷ []) start old new p.grows g;
     all = λ xs all deny k d m o. elim (last_or k n m) [
       | inl q ↦ (λ f h. subst (λ (row : List Bool). IsMarked row (get_or steps k d).head) (sym e) (marked_still old-row t.head (get_or steps k d).head room (p.all xs (g.kept xs all) deny k d q o f h)))
       | inr q ↦ subst (λ (x : Step). x.label ≡ value_at xs i → IsMarked tails x.tail → IsMarked new-row x.head) (item_at steps k n d t l is q) (λ f h. subst (λ (row : List Bool). IsMarked row t.head) (sym e) (marked_here old-row t.head room))
@@ -85,14 +86,15 @@ module _ (s : Trail) (goal : Option Atom) (i : ℕ) (steps : List Step) (tails :
 
 module _ (s : Trail) (goal : Option Atom) (steps : List Step) (first count : ℕ) (is : List ℕ) where
   pub come_begun : (us : List Atom) (row : List Bool) → us ≡ [] → length row ≡ count → ((q : ℕ) → (IsMarked row q → q ≡ first) × (q ≡ first → IsMarked row q)) → AreCome s goal steps first count is 0 us row
-  come_begun us row e size marked = record { size = size; facts = no_facts s us e; all = λ xs all deny q h. (marked q).1 h }
+  come_begun us row e size marked = record { size = size; facts = no_facts s us e; speaks = none_speaks is us e; all = λ xs all deny q h. (marked q).1 h }
 
-  pub come_more : (n i : ℕ) (tails heads : List Bool) (old new : List Atom) → i ≡ get_or is n 0 → Comes s goal i steps (length steps) tails heads old new → AreCome s goal steps first count is n old tails → AreCome s goal steps first count is (n + 1) new heads
-  come_more n i tails heads old new is-i c p =
+  pub come_more : (n i : ℕ) (tails heads : List Bool) (old new : List Atom) → n < length is → i ≡ get_or is n 0 → Comes s goal i steps (length steps) tails heads old new → AreCome s goal steps first count is n old tails → AreCome s goal steps first count is (n + 1) new heads
+  come_more n i tails heads old new within is-i c p =
       let e : suc n ≡ n + 1 = omega arith in
       subst (λ (m : ℕ). AreCome s goal steps first count is m new heads) e (record {
         size = c.size ∙ p.size;
         facts = c.grows.facts p.facts;
+        speaks = c.grows.about is (All-cons (Contains is) i [] (subst (λ (j : ℕ). Contains is j) (sym is-i) (Contains-get_or is n 0 within)) (All-nil (Contains is))) p.speaks;
         all = λ xs all deny q h.
             let at : get_or steps h.1.0 h.0 ≡ h.0 = h.1.2 in
             let label : h.0.label ≡ value_at xs i = h.3 ∙ ap (λ (j : ℕ). value_at xs j) (sym is-i) in
@@ -103,6 +105,7 @@ module _ (s : Trail) (goal : Option Atom) (steps : List Step) (first count : ℕ
   pub come_cut : (n : ℕ) (us : List Atom) (row last : List Bool) → n ≡ length is → ((q : ℕ) → IsMarked row q → IsMarked last q → ⊥) → AreCome s goal steps first count is n us row → IsCut s goal steps first last is us
   come_cut n us row last e off p = record {
     facts = p.facts;
+    speaks = p.speaks;
     none = λ xs all deny q h m. off q (p.all xs all deny q (subst (λ (k : ℕ). LeadsToState xs steps first is k q) (sym e) h)) m;
   }
 
@@ -131,6 +134,7 @@ pub cut_gives : (start : ℤ) (finals tails heads labels : List ℤ) (states : L
     → (s : Trail) (goal : Option Atom) (is : List ℕ) (us : List Atom) → IsCut s goal steps first last is us → GivesGoal (Automaton start finals tails heads labels is) s goal us
 cut_gives start finals tails heads labels states first last steps net s goal is us c = record {
   facts = c.facts;
+  speaks = c.speaks;
   excludes = λ xs within all holds deny. cut_excludes (transitions tails heads labels) finals start states first last steps net s goal is us c xs all holds deny;
 }
 

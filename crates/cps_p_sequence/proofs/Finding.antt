@@ -1,5 +1,5 @@
 -- What a look finds: each atom is given, and where all are true nothing is left.
-use Rattle.std.specs.Prelude.{int_le, not, All, Result, Ok, Err, IsTrue}
+use Rattle.std.specs.Prelude.{int_le, not, All, Contains, Result, Ok, Err, IsTrue}
 use Rattle.std.specs.declared.alloc.AllocError.{AllocError}
 use Rattle.std.proofs.Common.{ℕ, ◌<◌, ◌≤◌, ◌+◌, ℤ, pos, ◌-ℤ◌, ◌≤ℤ◌, ◌<ℤ◌, ◌≡◌, ◌⊎◌, inl, inr, Bool, true, false, List, [], ◌∷◌, ◌++◌, length, get_or, refl, sym, ◌∙◌, ap, subst, arith}
 use Rattle.std.proofs.lemmas.Int.{ints}
@@ -14,7 +14,11 @@ use Rattle.cps_literal.specs.Truth.{meets, value_at, atom_holds}
 use Rattle.cps_instance.specs.declared.task.Body.{Body}
 use Rattle.cps_instance.proofs.Agreeing.{All-append_left, All-append_right}
 use Rattle.cps_trail.specs.Trail.{Trail, IsTrueNow, IsInside}
+use Rattle.cps_instance.specs.Tasks.{subjects_of_body}
 use Rattle.cps_propagate.specs.Now.{IsOpenTo}
+use Rattle.cps_propagate.specs.Reasons.{SpeaksOf}
+use Rattle.cps_propagate.proofs.Speaking.{speaks_none, speaks_push}
+use Rattle.cps_p_sequence.proofs.Growing.{none_speaks}
 use Rattle.cps_rule.specs.declared.rule.Narrowing.{Narrowing}
 use Rattle.cps_rule.specs.Rules.{IsFact, IsGiven, IsExplained}
 use Rattle.cps_p_sequence.specs.Inverses.{AreGivenPlaces, AreTrue, HasPlace, IsMatched, ArePaired, AllPaired, IsWithinPlaces, AreMirroredAt, AreMirrored}
@@ -82,8 +86,9 @@ off_true s i n now o = not_both (equals n n) (is_equal n n refl) (now n o)
 
 -- the same by a fact
 pub off_explained : (b : Body) (s : Trail) (t : Atom) (m : ℤ) (j : ℕ) (n : ℤ) (fact : Atom) (facts : List Atom) → t.op ≡ Ne → t.value ≡ n → fact ≡ other j m → facts ≡ fact ∷ [] → j < length s.first → IsInside m → IsTrueNow s fact
-    → IsMatched b t.subject m j n → IsExplained b s t facts
-off_explained b s t m j n fact facts is-ne is-n is-fact are inside small now matched = record {
+    → Contains (subjects_of_body b) j → IsMatched b t.subject m j n → IsExplained b s t facts
+off_explained b s t m j n fact facts is-ne is-n is-fact are inside small now mine matched = record {
+  speaks = subst (λ (us : List Atom). SpeaksOf (subjects_of_body b) us) (sym are) (speaks_push (subjects_of_body b) [] fact (speaks_none (subjects_of_body b)) (subst (λ (u : Atom). Contains (subjects_of_body b) u.subject) (sym is-fact) mine));
   facts = subst (λ (us : List Atom). All (IsFact s) us) (sym are) (All-cons (IsFact s) fact [] known (All-nil (IsFact s)));
   gives = λ xs within all body.
       let true_fact : atom_holds xs fact ≡ true = All-head (λ u. atom_holds xs u ≡ true) fact [] (subst (λ (us : List Atom). All (λ u. atom_holds xs u ≡ true) us) are all) in
@@ -98,6 +103,7 @@ off_explained b s t m j n fact facts is-ne is-n is-fact are inside small now mat
 -- by the body alone
 pub place_explained : (b : Body) (s : Trail) (t : Atom) (count : ℤ) (facts : List Atom) → facts ≡ [] → ((x : ℤ) → pos 0 ≤ℤ x → x <ℤ count → meets t.op t.value x ≡ true) → HasPlace b t.subject count → IsExplained b s t facts
 place_explained b s t count facts none wide place = record {
+  speaks = none_speaks (subjects_of_body b) facts none;
   facts = subst (λ (us : List Atom). All (IsFact s) us) (sym none) (All-nil (IsFact s));
   gives = λ xs within all body. wide (value_at xs t.subject) (place.least xs body) (place.below xs body);
 }

@@ -16,6 +16,7 @@ use Rattle.cps_propagate.specs.Now.{IsOpenTo, IsFixedNow, AreOpen}
 use Rattle.cps_propagate.specs.Strength.{IsHeld, HasRoom, IsMirrored, IsStrongInverse}
 use Rattle.cps_rule.specs.Rules.{IsAtRest, IsFittingRule}
 use Rattle.cps_p_sequence.specs.Inverses.{HasPlace, AllPaired, IsWithinPlaces, AreMirrored}
+use Rattle.cps_p_sequence.proofs.Growing.{among_left, among_right}
 
 at_place : (xs : List ℤ) (is : List ℕ) (k d : ℕ) (e : ℤ) → k < length is → get_or (values_at xs is) k e ≡ value_at xs (get_or is k d)
 at_place xs is k d e l = get_or-map (value_at xs) is k d e l
@@ -67,10 +68,10 @@ module _ (direct inverse : List ℕ) (same : length direct ≡ length inverse) w
       sym (at_place xs direct i 0 (pos 0) l) ∙ (h.same i j (omega arith) (omega arith)).1 (at_place xs inverse j 0 (pos 0) m ∙ e)
 
   pub paired : AllPaired (Inverse direct inverse) direct inverse
-  paired = record { at = λ i l. record { forth = λ j m. record { at = forth i j l m }; back = λ j m. record { at = back i j l m } } }
+  paired = record { at = λ i l. record { forth = λ j m. record { at = forth i j l m }; read = among_right direct inverse; back = λ j m. record { at = back i j l m } } }
 
   pub paired_back : AllPaired (Inverse direct inverse) inverse direct
-  paired_back = record { at = λ j m. record { forth = λ i l. record { at = back i j l m }; back = λ i l. record { at = forth i j l m } } }
+  paired_back = record { at = λ j m. record { forth = λ i l. record { at = back i j l m }; read = among_left direct inverse; back = λ i l. record { at = forth i j l m } } }
 
   -- what mirrors each other, within the places, is at rest
   module _ (s : Trail) (mirrored : AreMirrored s direct inverse) (direct_within : All (λ i. IsWithinPlaces s i (pos (length direct))) direct) (inverse_within : All (λ i. IsWithinPlaces s i (pos (length direct))) inverse) where

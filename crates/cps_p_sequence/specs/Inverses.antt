@@ -1,9 +1,9 @@
 -- What an inverse gives, value by value, and when two lists mirror each other.
-use Rattle.std.specs.Prelude.{◌≡◌, ◌↔◌, ℕ, ◌<◌, ℤ, pos, ◌≤ℤ◌, ◌<ℤ◌, Bool, true, false, List, length, slice_index, All}
+use Rattle.std.specs.Prelude.{◌≡◌, ◌↔◌, ℕ, ◌<◌, ℤ, pos, ◌≤ℤ◌, ◌<ℤ◌, Bool, true, false, List, length, slice_index, All, Contains}
 use Rattle.cps_literal.specs.Truth.{value_at}
 use Rattle.cps_instance.specs.declared.task.Body.{Body}
 use Rattle.cps_instance.specs.declared.task.Body.TheVariants.{Inverse}
-use Rattle.cps_instance.specs.Tasks.{HoldsBody}
+use Rattle.cps_instance.specs.Tasks.{HoldsBody, subjects_of_body}
 use Rattle.cps_trail.specs.Trail.{Trail, IsTrueNow}
 use Rattle.cps_propagate.specs.Now.{IsOpenTo}
 use Rattle.cps_rule.specs.declared.rule.Narrowing.{Narrowing}
@@ -26,8 +26,9 @@ pub record HasPlace (b : Body) (i : ℕ) (count : ℤ) : Type 0 where
 pub record IsMatched (b : Body) (i : ℕ) (m : ℤ) (j : ℕ) (n : ℤ) : Type 0 where
   pub at : (xs : List ℤ) → HoldsBody b xs → value_at xs i ≡ n → value_at xs j ≡ m
 
--- so for one position and each of a list, both ways
+-- so for one position and each of a list that the body reads, both ways
 pub record ArePaired (b : Body) (i : ℕ) (m : ℤ) (others : List ℕ) : Type 0 where
+  pub read : All (Contains (subjects_of_body b)) others
   pub forth : (k : ℕ) → k < length others → IsMatched b i m (slice_index others k) (pos k)
   pub back : (k : ℕ) → k < length others → IsMatched b (slice_index others k) (pos k) i m
 

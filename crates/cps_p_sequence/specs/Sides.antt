@@ -1,8 +1,8 @@
 -- The two lists of an inverse, each as positions whose values differ.
-use Rattle.std.specs.Prelude.{◌≡◌, ℕ, ℤ, List}
+use Rattle.std.specs.Prelude.{◌≡◌, ℕ, ℤ, List, All, Contains}
 use Rattle.cps_instance.specs.declared.task.Body.{Body}
 use Rattle.cps_instance.specs.declared.task.Body.TheVariants.{AllDiff}
-use Rattle.cps_instance.specs.Tasks.{HoldsBody}
+use Rattle.cps_instance.specs.Tasks.{HoldsBody, subjects_of_body}
 use Rattle.cps_trail.specs.Trail.{Trail}
 use Rattle.cps_rule.specs.declared.rule.Look.{Look}
 use Rattle.cps_rule.specs.declared.rule.Look.TheVariants.{Possible, Impossible}
@@ -13,9 +13,10 @@ pub record AreSides (ds js : List ℕ) (one two : Body) : Type 0 where
   pub direct : one ≡ AllDiff ds
   pub inverse : two ≡ AllDiff js
 
--- wherever a body holds, another holds
+-- wherever a body holds, another holds, which reads no other subjects
 pub record ImpliesBody (b p : Body) : Type 0 where
   pub at : (xs : List ℤ) → HoldsBody b xs → HoldsBody p xs
+  pub subjects : All (Contains (subjects_of_body b)) (subjects_of_body p)
 
 -- a body holds at no values that the store leaves, where a look says so
 abbrev pub IsSeenImpossible : Body → Trail → Look → Type 0

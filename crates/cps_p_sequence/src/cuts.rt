@@ -6,7 +6,7 @@
 //! fact; each other one from a marked state is ruled out by a fact about its label: below or above what its position
 //! could have, by one end for all such labels, or off it. Where no final state is marked in the end, no values beside
 //! the facts are labels of a run.
-ghost use Rattle.std.specs.Prelude.{◌≡◌, ◌<◌, ℕ, ℤ, true, Option, List, length, All, Ok, OnOk, IfOk, IsTrue};
+ghost use Rattle.std.specs.Prelude.{◌≡◌, ◌<◌, ℕ, ℤ, true, Option, List, [], ◌∷◌, length, All, Ok, OnOk, IfOk, IsTrue};
 ghost use Rattle.cps_literal.specs.Truth.{value_at};
 ghost use Rattle.cps_literal.specs.declared.atom.Op.TheVariants.{Le, Ge};
 ghost use Rattle.cps_rule.specs.Rules.{AllTrueAt};
@@ -219,7 +219,7 @@ fn push_bound(
     facts: &mut Vec<Atom>,
 ) -> Result<Option<i64>, AllocError>
     requires { subject < length past.now.first }
-    ensures grows { OnOk result (Grows past.now facts.old.items facts.new.items) }
+    ensures grows { OnOk result (Grows past.now (subject ∷ []) facts.old.items facts.new.items) }
     ensures bounded { IfOk result (λ kept. (xs : List ℤ) → AllTrueAt xs facts.new.items →
         MeetsBound op kept (value_at xs subject)) }
 {
@@ -242,7 +242,7 @@ fn push_limits(
     facts: &mut Vec<Atom>,
 ) -> Result<Limits, AllocError>
     requires { subject < length past.now.first }
-    ensures grows { OnOk result (Grows past.now facts.old.items facts.new.items) }
+    ensures grows { OnOk result (Grows past.now (subject ∷ []) facts.old.items facts.new.items) }
     ensures limited { IfOk result (λ kept. IsLimited facts.new.items subject kept) }
 {
     let low = push_bound(past, subject, Op::Ge, limits.low, facts)?;
@@ -260,7 +260,7 @@ fn rule_out(
     facts: &mut Vec<Atom>,
 ) -> Result<bool, AllocError>
     requires { subject < length past.now.first }
-    ensures grows { OnOk result (Grows past.now facts.old.items facts.new.items) }
+    ensures grows { OnOk result (Grows past.now (subject ∷ []) facts.old.items facts.new.items) }
     ensures out { result ≡ Ok true → IsLimited facts.old.items subject limits.now → (goal : Option Atom) →
         IsOut goal facts.new.items subject label }
 {
@@ -288,7 +288,7 @@ fn is_no_way(
 ) -> Result<bool, AllocError>
     requires subject { layer.now.subject < length past.now.first }
     requires head { step.now.head < length layer.now.guide.now }
-    ensures grows { OnOk result (Grows past.now facts.old.items facts.new.items) }
+    ensures grows { OnOk result (Grows past.now (layer.now.subject ∷ []) facts.old.items facts.new.items) }
     ensures out { result ≡ Ok true → IsLimited facts.old.items layer.now.subject limits.now →
         IsOut layer.now.goal facts.new.items layer.now.subject step.now.label }
 {

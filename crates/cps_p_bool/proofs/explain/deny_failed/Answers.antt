@@ -13,7 +13,7 @@ returns c = λ _.
     let l : c.args.place < length c.args.atoms.now = omega (arith, c.if-place-atoms.false) in
     record {
       used = c.as_slice.result.now;
-      excludes = subst (λ (used : List Atom). Excludes c.args.past.now (BoolAnd c.args.atoms.now) used) (sym c.as_slice.ensures) (Excludes-and c.args.past.now c.args.atoms.now c.args.place none l (c.was_false.ensures c.if-not-was_false.false));
+      excludes = subst (λ (used : List Atom). Excludes c.args.past.now (BoolAnd c.args.atoms.now) used) (sym c.as_slice.ensures) (Excludes-and c.args.past.now c.args.atoms.now c.args.place none l (c.truth.ensures.no.0 (c.is_no.ensures.0 c.if-not-is_no.false)));
       denies = c.in_ok-deny_antecedents.ensures;
     }
 

@@ -14,7 +14,7 @@ returns c = λ _ body n.
     record {
       used = c.as_slice.result.now;
       excludes = subst (λ (used : List Atom). Excludes c.args.past.now body used) (sym c.as_slice.ensures)
-          (Excludes-two body c.args.atoms.now n c.args.past.now c.args.noted.place c.args.noted.other none a l (c.was_true.ensures c.if-not-was_true.false) (c.was_true-2.ensures c.if-not-was_true-2.false));
+          (Excludes-two body c.args.atoms.now n c.args.past.now c.args.noted.place c.args.noted.other none a l (c.truth.ensures.yes.0 (c.is_yes.ensures.0 c.if-not-is_yes.false)) (c.truth-2.ensures.yes.0 (c.is_yes-2.ensures.0 c.if-not-is_yes-2.false)));
       denies = c.in_ok-deny_antecedents.ensures;
     }
 

@@ -17,7 +17,7 @@ returns c = λ is body n.
     c.explain_as.ensures is body
     (subst (λ (used : List Atom). GivesAtom c.args.past.now (task_of c.args.enforcement.now body) used c.negate-given.result) (sym c.as_slice.ensures)
     (Gives-not body c.args.atoms.now n c.args.past.now c.args.enforcement.now c.args.noted.other c.args.noted.place none c.negate-given.result c.requires.enforced m l (λ same. c.if-place-chosen.false same)
-    (λ d. subst (λ (u : Atom). IsTrueNow c.args.past.now u) (get_or_default c.args.atoms.now c.args.noted.other none d m) (c.was_true.ensures c.if-not-was_true.false))
+    (λ d. subst (λ (u : Atom). IsTrueNow c.args.past.now u) (get_or_default c.args.atoms.now c.args.noted.other none d m) (c.truth.ensures.yes.0 (c.is_yes.ensures.0 c.if-not-is_yes.false)))
     (record { subject = c.negate-given.ensures.subject; negated = c.negate-given.ensures.negated })))
 
 pub negate-given-requires-clause-low : goal.negate-given-requires-clause-low

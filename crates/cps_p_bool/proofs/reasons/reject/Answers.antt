@@ -1,7 +1,7 @@
 -- The last enforcement atom is given its opposite, or all are true and the body holds nowhere.
 use Rattle.std.proofs.Common.{arith, ℕ, ◌<◌, length, sym, subst}
 use Rattle.cps_p_bool.proofs.Results.{IfOk-map, not_settled}
-use Rattle.cps_p_bool.proofs.ReasonConsequences.{GivesAtom-last, IsConflict-denied, IsOff-opposite}
+use Rattle.cps_p_bool.proofs.ReasonConsequences.{GivesAtom-last, IsConflictBy-denied, IsOff-opposite}
 use Rattle.cps_p_bool.proofs.NegatableLiterals.{negatable_low, negatable_high, negatable_above, negatable_below}
 use Rattle.cps_propagate.proofs.Past.{none}
 use Rattle.cps_trail.proofs.Inferring.{Infers-refl}
@@ -25,7 +25,7 @@ returns-then-last-enforcement-clause-refused c = λ e.
 
 pub returns-clause-answers : goal.returns-clause-answers
 returns-clause-answers c = λ body x.
-    IsConflict-denied _ _ c.args.rule.now.last _ body _ c.requires.in_force (λ l. omega (arith, l, c.if-last-enforcement.false)) x c.in_ok-deny_antecedents.ensures
+    IsConflictBy-denied _ _ c.args.rule.now.last _ body _ c.requires.in_force (λ l. omega (arith, l, c.if-last-enforcement.false)) x c.in_ok-deny_antecedents.ensures
 
 pub negate-target-requires-clause-low : goal.negate-target-requires-clause-low
 negate-target-requires-clause-low c = negatable_low (c.requires.fits c.args.rule.now.last none c.if-last-enforcement.true)

@@ -6,6 +6,7 @@ use Rattle.std.proofs.lemmas.List.{take_all}
 use Rattle.cps_literal.specs.declared.atom.Atom.{Atom}
 use Rattle.cps_literal.specs.declared.atom.Op.TheVariants.{Le}
 use Rattle.cps_literal.specs.Truth.{atom_holds}
+use Rattle.cps_instance.specs.Tasks.{atom_subjects}
 use Rattle.cps_p_cumulative.specs.Relying.{Relies}
 use Rattle.cps_p_cumulative.proofs.Levelled.{ok_true, no_yes}
 use Rattle.cps_p_cumulative.proofs.Relied.{Relies-more}
@@ -20,7 +21,7 @@ loop-atom-preserved c =
     Relies-more c.args.past.now c.args.case.assumed c.args.atoms.now c.loop-atom.atom-index no_atom c.args.facts.now.items c.loop-atom.facts.items c.rely.new.facts.items c.loop-atom-test.true c.loop-atom.invariant (c.rely.ensures ok)
 
 pub returns : goal.returns
-returns c = λ ok. subst (λ (us : List Atom). Relies c.args.past.now c.args.case.assumed (λ xs. All (λ u. atom_holds xs u ≡ true) us) c.args.facts.now.items c.loop-atom.facts.items) (take_all c.loop-atom.atom-index c.args.atoms.now c.loop-atom-test.false) c.loop-atom.invariant
+returns c = λ ok. subst (λ (us : List Atom). Relies c.args.past.now c.args.case.assumed (atom_subjects c.args.atoms.now) (λ xs. All (λ u. atom_holds xs u ≡ true) us) c.args.facts.now.items c.loop-atom.facts.items) (take_all c.loop-atom.atom-index c.args.atoms.now c.loop-atom-test.false) c.loop-atom.invariant
 
 pub returns-then-not-branch : goal.returns-then-not-branch
 returns-then-not-branch c = λ ok. no_yes _ _ ok refl

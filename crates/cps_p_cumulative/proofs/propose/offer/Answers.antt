@@ -4,7 +4,7 @@ use Rattle.std.specs.Prelude.{Ok}
 use Rattle.std.specs.List.{All}
 use Rattle.std.proofs.lemmas.List.Elements.{All-push}
 use Rattle.cps_literal.specs.declared.atom.Atom.{Atom}
-use Rattle.cps_instance.specs.Tasks.{HoldsBody}
+use Rattle.cps_instance.specs.Tasks.{HoldsBody, subjects_of_body}
 use Rattle.cps_rule.specs.declared.rule.Narrowing.{Narrowing}
 use Rattle.cps_rule.specs.Rules.{IsGiven}
 use Rattle.cps_p_cumulative.specs.Running.{body_of}
@@ -22,7 +22,7 @@ returns-in_ok-push c =
     let ok : c.charge.result ≡ Ok true = ok_true c.charge.result c.in_ok-charge.field-0 c.in_ok-charge.was c.if-branch.true in
     let facts = c.charge.new.facts.items in
     let e = explained s (body_of r) c.negate.result u facts c.negate.ensures.subject c.negate.ensures.negated
-    (subst (λ (us : List Atom). Relies s c.negate.result (λ xs. HoldsBody (body_of r) xs → ⊥) us facts) c.clear.ensures.items (c.charge.ensures ok)) in
+    (subst (λ (us : List Atom). Relies s c.negate.result (subjects_of_body (body_of r)) (λ xs. HoldsBody (body_of r) xs → ⊥) us facts) c.clear.ensures.items (c.charge.ensures ok)) in
     subst (λ (ns : List Narrowing). All (λ n. IsGiven (body_of r) s n.target) ns) (sym c.in_ok-push.ensures.items)
     (All-push (λ (n : Narrowing). IsGiven (body_of r) s n.target) c.args.found.now.items c.args.narrowing c.requires.found (given s (body_of r) u facts c.requires.subject e))
 

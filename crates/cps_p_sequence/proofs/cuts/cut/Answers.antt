@@ -38,7 +38,7 @@ loop-subject-preserved c =
     let heads = c.lead_on.new.heads.items in
     let comes : Comes s c.args.goal i net.steps.now (length net.steps.now) c.loop-subject.reached.items heads old new =
     subst (λ (xs : List Bool). Comes s c.args.goal i net.steps.now (length net.steps.now) xs heads old new) c.as_slice-tails.ensures.value c.in_ok-lead_on.ensures in
-    rw c.swap.ensures.x_after (come_more s c.args.goal net.steps.now net.first (length net.last.now) is n i c.loop-subject.reached.items heads old new refl comes c.loop-subject.invariant)
+    rw c.swap.ensures.x_after (come_more s c.args.goal net.steps.now net.first (length net.last.now) is n i c.loop-subject.reached.items heads old new c.loop-subject-test.true refl comes c.loop-subject.invariant)
 
 pub is_cut_off-requires : goal.is_cut_off-requires
 is_cut_off-requires c = ap (λ (xs : List Bool). length xs) c.as_slice-marks.ensures.value ∙ c.loop-subject.invariant.size

@@ -1,5 +1,5 @@
 -- A step that is no way on is ruled out by the facts; each other one marks its head.
-use Rattle.std.proofs.Common.{pos, Ok, get_or, refl, sym, ◌∙◌, ap, arith, true≢false}
+use Rattle.std.proofs.Common.{◌∷◌, [], pos, Ok, get_or, refl, sym, ◌∙◌, ap, arith, true≢false}
 use Rattle.std.proofs.lemmas.List.{get_or_default}
 use Rattle.cps_p_sequence.specs.declared.states.Step.{Step}
 use Rattle.cps_p_sequence.proofs.Growing.{grows_same}
@@ -38,7 +38,7 @@ loop-step-preserved-then-not-layer-step c =
     let l = c.loop-step-test.true in
     let us = c.loop-step.facts.items in
     record {
-      comes = comes_passed s y.goal y.subject y.steps.now y.tails.now c.args.facts.now.items n c.loop-step.heads.items us us t l (get_or_default y.steps.now n no_step t l) (grows_same s us us refl)
+      comes = comes_passed s y.goal y.subject y.steps.now y.tails.now c.args.facts.now.items n c.loop-step.heads.items us us t l (get_or_default y.steps.now n no_step t l) (grows_same s (y.subject ∷ []) us us refl)
           (λ h. absurd (true≢false (sym h ∙ c.if-not-layer-step.true))) c.loop-step.invariant.comes;
       limited = c.loop-step.invariant.limited;
     }

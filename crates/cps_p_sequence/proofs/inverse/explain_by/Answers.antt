@@ -24,7 +24,7 @@ returns-in-Yes c yes' b paired =
     let items = rw (to_z-of_z w64 m fm) at c.in_ok-push-in-Yes.ensures.items in
     let are : c.push.new.self.items ≡ other j m ∷ [] = items ∙ ap (λ (us : List Atom). us ++ other j m ∷ []) c.clear.ensures.items in
     let now = rw (to_z-of_z w64 m fm) at (c.truth.ensures.yes.0 c.in-Yes.is) in
-    off_explained b s t m j (pos k) (other j m) c.push.new.self.items c.requires.op is-n refl are (c.requires.others k 0 l) inside now (paired.forth k l)
+    off_explained b s t m j (pos k) (other j m) c.push.new.self.items c.requires.op is-n refl are (c.requires.others k 0 l) inside now (paired.read k 0 l) (paired.forth k l)
 
 pub returns-in_default : goal.returns-in_default
 returns-in_default c = λ no' b paired. absurd (true≢false (sym no'))

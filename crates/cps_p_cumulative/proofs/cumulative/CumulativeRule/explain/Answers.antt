@@ -1,7 +1,7 @@
 -- The denial of the atom that is explained is assumed, and what it overloads gives the atom.
 use Rattle.std.proofs.Common.{refl, rules, subst, List}
 use Rattle.cps_literal.specs.declared.atom.Atom.{Atom}
-use Rattle.cps_instance.specs.Tasks.{HoldsBody}
+use Rattle.cps_instance.specs.Tasks.{HoldsBody, subjects_of_body}
 use Rattle.cps_p_cumulative.specs.Running.{body_of}
 use Rattle.cps_p_cumulative.specs.Relying.{Relies}
 use Rattle.cps_p_cumulative.proofs.SpanDemands.{resource-inside}
@@ -18,7 +18,7 @@ returns c = λ ok.
     let s = c.args.past.now in
     let r = c.args.self.now.resource in
     explained s (body_of r) c.negate.result c.args.target c.charge.new.facts.items c.negate.ensures.subject c.negate.ensures.negated
-    (subst (λ (us : List Atom). Relies s c.negate.result (λ xs. HoldsBody (body_of r) xs → ⊥) us c.charge.new.facts.items) c.clear.ensures.items (c.charge.ensures ok))
+    (subst (λ (us : List Atom). Relies s c.negate.result (subjects_of_body (body_of r)) (λ xs. HoldsBody (body_of r) xs → ⊥) us c.charge.new.facts.items) c.clear.ensures.items (c.charge.ensures ok))
 
 pub returns-then-not-is_inside : goal.returns-then-not-is_inside
 returns-then-not-is_inside c = λ ok. no_yes _ _ ok refl

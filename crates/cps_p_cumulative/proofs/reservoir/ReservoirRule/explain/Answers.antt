@@ -1,7 +1,7 @@
 -- The denial of the atom that is explained is assumed, and as the level then passes a limit the atom holds.
 use Rattle.std.proofs.Common.{refl, rules, subst, List}
 use Rattle.cps_literal.specs.declared.atom.Atom.{Atom}
-use Rattle.cps_instance.specs.Tasks.{HoldsBody}
+use Rattle.cps_instance.specs.Tasks.{HoldsBody, subjects_of_body}
 use Rattle.cps_p_cumulative.specs.Levels.{tank_body}
 use Rattle.cps_p_cumulative.specs.Relying.{Relies}
 use Rattle.cps_p_cumulative.proofs.Levelled.{tank_inside, no_yes}
@@ -17,7 +17,7 @@ returns c = λ ok.
     let s = c.args.past.now in
     let b = tank_body c.args.self.now.tank in
     explained s b c.negate.result c.args.target c.charge_level.new.facts.items c.negate.ensures.subject c.negate.ensures.negated
-    (subst (λ (us : List Atom). Relies s c.negate.result (λ xs. HoldsBody b xs → ⊥) us c.charge_level.new.facts.items) c.clear.ensures.items (c.charge_level.ensures ok))
+    (subst (λ (us : List Atom). Relies s c.negate.result (subjects_of_body b) (λ xs. HoldsBody b xs → ⊥) us c.charge_level.new.facts.items) c.clear.ensures.items (c.charge_level.ensures ok))
 
 pub returns-then-not-is_inside : goal.returns-then-not-is_inside
 returns-then-not-is_inside c = λ ok. no_yes _ _ ok refl
