@@ -194,7 +194,7 @@ may_divide_up target number divisor t n d tl th nl nh one same ot on h =
       one_sign = both_positive l.d g.d lp gp;
     }
 
-neg_neg : (d : ℤ) → neg_ℤ (neg_ℤ d) ≡ d
+pub neg_neg : (d : ℤ) → neg_ℤ (neg_ℤ d) ≡ d
 neg_neg (pos zero) = refl
 neg_neg (pos (suc n)) = refl
 neg_neg (negsuc n) = refl

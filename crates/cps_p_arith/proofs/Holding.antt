@@ -1,9 +1,12 @@
 -- What bounds say of a demand at a store.
 use Rattle.std.proofs.Common.{ℕ, suc, ◌+◌, ◌<◌, ◌^◌, ◌-◌, ℤ, pos, negsuc, ◌≤ℤ◌, ◌<ℤ◌, ◌+ℤ◌, Bool, true, false, true≢false, Option, Some, None, List, [], ◌∷◌, ◌++◌, length, get_or, take, ◌≡◌, ◌⊎◌, inl, inr, refl, sym, ◌∙◌, ap, subst, arith, All, IfSome}
-use Rattle.std.specs.Prelude.{int_le, ◌||◌, not}
+use Rattle.std.specs.Prelude.{int_le, ◌||◌, not, Contains}
 use Rattle.std.specs.List.{AllZip, list_any}
 use Rattle.std.proofs.lemmas.Int.{ints}
-use Rattle.std.proofs.lemmas.List.Elements.{All-nil, All-cons, All-head, All-tail, All-push}
+use Rattle.cps_propagate.specs.Reasons.{SpeaksOf}
+use Rattle.cps_propagate.proofs.Speaking.{speaks_none, speaks_push}
+use Rattle.std.proofs.lemmas.List.{take_more}
+use Rattle.std.proofs.lemmas.List.Elements.{All-nil, All-cons, All-head, All-tail, All-push, All-contains_itself}
 use Rattle.cps_domain.specs.Window.{is_among, within, RisesFrom}
 use Rattle.cps_domain.proofs.Tests.{true_le, first_of_both, second_of_both}
 use Rattle.cps_literal.specs.declared.atom.Atom.{Atom}
@@ -138,6 +141,7 @@ one_more s p u fs h f = record {
   facts = All-push (IsFact s) fs u h f;
   keeps = λ xs t. all_but_last (λ v. atom_holds xs v ≡ true) fs u t;
   holds = λ xs t o. all_last (λ v. atom_holds xs v ≡ true) fs u t;
+  about = λ is mine before. speaks_push is fs u before mine;
 }
 
 -- a test is true or false
@@ -173,6 +177,7 @@ free_low s p u fs h known op sound low = record {
   facts = h;
   keeps = λ xs t. t;
   holds = λ xs w t o. rw op (le_true u.value (value_at xs u.subject) (let i = (among_inside (negsuc (2 ^ 62 - 1)) (domain_at s.first u.subject) (value_at xs u.subject) sound.rising (w u.subject known)).0 in omega (arith, ints)));
+  about = λ is mine before. before;
 }
 
 pub free_high : (s : Trail) (p : Option Atom) (u : Atom) (fs : List Atom) → AreFacts s fs → u.subject < length s.first → u.op ≡ Le → AreIntervals (domain_at s.first u.subject) → pos (2 ^ 62) ≤ℤ u.value
@@ -181,7 +186,14 @@ free_high s p u fs h known op sound high = record {
   facts = h;
   keeps = λ xs t. t;
   holds = λ xs w t o. rw op (le_true (value_at xs u.subject) u.value (let i = (among_inside (negsuc (2 ^ 62 - 1)) (domain_at s.first u.subject) (value_at xs u.subject) sound.rising (w u.subject known)).1 in omega (arith, ints)));
+  about = λ is mine before. before;
 }
+
+all_before : (P : ℕ → Type 0) (is : List ℕ) (k : ℕ) → k < length is → All P (take (k + 1) is) → All P (take k is)
+all_before P is k l h = all_but_last P (take k is) (get_or is k 0) (subst (λ (js : List ℕ). All P js) (take_more is k 0 l) h)
+
+all_here : (P : ℕ → Type 0) (is : List ℕ) (k d : ℕ) → k < length is → All P (take (k + 1) is) → P (get_or is k d)
+all_here P is k d l h = all_last P (take k is) (get_or is k d) (subst (λ (js : List ℕ). All P js) (take_more is k d l) h)
 
 pub supports_more : (s : Trail) (p : Option Atom) (is : List ℕ) (es : List Ends) (k : ℕ) (d : Ends) (old middle new : List Atom) → k < length is → length is ≡ length es
     → SupportsEach s p (take k is) (take k es) old middle → SupportsEnds s p (get_or is k 0) (get_or es k d) middle new → SupportsEach s p (take (k + 1) is) (take (k + 1) es) old new
@@ -189,10 +201,11 @@ supports_more s p is es k d old middle new l same h g = record {
   facts = g.facts;
   keeps = λ xs t. h.keeps xs (g.keeps xs t);
   holds = λ xs w t o. zip_both (IsHeldIn xs) is es k d l (omega arith) (h.holds xs w (g.keeps xs t) o) (g.holds xs w t o);
+  about = λ js mine before. g.about js (all_here (Contains js) is k 0 l mine) (h.about js (all_before (Contains js) is k l mine) before);
 }
 
 pub supports_none : (s : Trail) (p : Option Atom) (fs : List Atom) → AreFacts s fs → SupportsEach s p [] [] fs fs
-supports_none s p fs h = record { facts = h; keeps = λ xs t. t; holds = λ xs w t o. tt }
+supports_none s p fs h = record { facts = h; keeps = λ xs t. t; holds = λ xs w t o. tt; about = λ js mine before. before }
 
 pub supports_both : (s : Trail) (p : Option Atom) (i : ℕ) (e : Ends) (low high : Atom) (old middle new : List Atom) → low ≡ record { subject = i; op = Ge; value = e.low } → high ≡ record { subject = i; op = Le; value = e.high }
     → NeedsWithin s p low old middle → NeedsWithin s p high middle new → SupportsEnds s p i e old new
@@ -203,12 +216,17 @@ supports_both s p i e low high old middle new el eh a b = record {
     from = true_le e.low (value_at xs i) (rw el at a.holds xs w (b.keeps xs t) o);
     to = true_le (value_at xs i) e.high (rw eh at b.holds xs w t o);
   };
+  about = λ is mine before. b.about is (subst (λ (u : Atom). Contains is u.subject) (sym eh) mine) (a.about is (subst (λ (u : Atom). Contains is u.subject) (sym el) mine) before);
 }
 
-pub refutes : (s : Trail) (p : Option Atom) (d : Demand) (b : Bounds) (old middle new : List Atom) → IsDemandMissed b d → SupportsEnds s p d.target b.target old middle
+pub refutes : (s : Trail) (p : Option Atom) (d : Demand) (b : Bounds) (old middle new : List Atom) → old ≡ [] → IsDemandMissed b d → SupportsEnds s p d.target b.target old middle
     → SupportsEach s p d.exprs.items b.members.items middle new → RefutesDemand s d p new
-refutes s p d b old middle new h t m = record {
+refutes s p d b old middle new none h t m = record {
   true_now = m.facts;
+  speaks =
+      let is = d.target ∷ d.exprs.items in
+      let own : All (Contains (d.target ∷ d.exprs.items)) (d.target ∷ d.exprs.items) = All-contains_itself (d.target ∷ d.exprs.items) in
+      m.about is (All-tail (Contains is) d.target d.exprs.items own) (t.about is (All-head (Contains is) d.target d.exprs.items own) (subst (λ (fs : List Atom). SpeaksOf (d.target ∷ d.exprs.items) fs) (sym none) (speaks_none is)));
   excludes = λ xs w true_at o met. h.at xs (record { target = t.holds xs w (m.keeps xs true_at) o; members = m.holds xs w true_at o }) met;
 }
 
@@ -216,6 +234,7 @@ refutes s p d b old middle new h t m = record {
 pub explained : (s : Trail) (d : Demand) (u v : Atom) (fs : List Atom) → v.subject ≡ u.subject → ((x : ℤ) → meets v.op v.value x ≡ not (meets u.op u.value x)) → RefutesDemand s d (Some v) fs → IsExplained (body_of d) s u fs
 explained s d u v fs same opposite r = record {
   facts = r.true_now;
+  speaks = subst (λ (is : List ℕ). SpeaksOf is fs) (sym (subjects_by d.relation d.target d.exprs.items)) r.speaks;
   gives = λ xs w t holds. elim (either (atom_holds xs u)) [
     | inl met ↦ met
     | inr missed ↦ absurd (r.excludes xs w t (rw same (opposite (value_at xs u.subject) ∙ ap not missed)) (holds_by d.relation d.target d.exprs.items xs holds))
@@ -225,6 +244,7 @@ explained s d u v fs same opposite r = record {
 pub refuted : (s : Trail) (d : Demand) (fs : List Atom) → RefutesDemand s d None fs → IsRefuted (body_of d) s fs
 refuted s d fs r = record {
   facts = r.true_now;
+  speaks = subst (λ (is : List ℕ). SpeaksOf is fs) (sym (subjects_by d.relation d.target d.exprs.items)) r.speaks;
   excludes = λ xs w t holds. r.excludes xs w t tt (holds_by d.relation d.target d.exprs.items xs holds);
 }
 

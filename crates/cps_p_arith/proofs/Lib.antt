@@ -4,6 +4,7 @@ pub mod Scaling
 pub mod Clamping
 pub mod Dividing
 pub mod Rests
+pub mod Leaving
 pub mod Opposites
 pub mod Resting
 pub mod Reaching

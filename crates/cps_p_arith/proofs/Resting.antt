@@ -7,7 +7,7 @@ use Rattle.cps_literal.specs.declared.atom.Atom.{Atom}
 use Rattle.cps_literal.specs.Truth.{value_at, atom_holds, meets}
 use Rattle.cps_trail.specs.Trail.{Trail, IsTrueNow}
 use Rattle.cps_propagate.specs.Now.{IsOpenTo, IsEndNow}
-use Rattle.cps_propagate.specs.Arithmetic.{IsInHull, IsInHullAt, Ranges, IsDivision, MayDivideIn, MayMultiply, MayMultiplyIn, MayBeGreatest, FallsShort, IsStrongGreatest, IsUnexcludedAtEnds}
+use Rattle.cps_propagate.specs.Arithmetic.{IsInHull, IsInHullAt, Ranges, IsDivision, MayDivideIn, MayLeaveIn, MayMultiply, MayMultiplyIn, MayBeGreatest, FallsShort, IsStrongGreatest, IsUnexcludedAtEnds}
 use Rattle.cps_propagate.specs.Strength.{IsStrongBody, IsExcludedBody}
 use Rattle.cps_rule.specs.declared.rule.Narrowing.{Narrowing}
 use Rattle.cps_p_arith.specs.declared.ends.Ends.{Ends}
@@ -20,7 +20,8 @@ use Rattle.cps_p_arith.specs.declared.relation.Relation.{Relation}
 use Rattle.cps_p_arith.specs.declared.relation.Relation.TheVariants.{Quotient, Remainder, Product, Greatest}
 use Rattle.cps_p_arith.specs.Ranges.{IsIn, AreIn, IsOrdered}
 use Rattle.cps_p_arith.specs.Maxima.{MayReach, IsAlone, IsOnlyReaching}
-use Rattle.cps_p_arith.specs.Demands.{body_by, AreEndsNow, AreMeasured, LieWithinBounds, IsDemandMissed, IsDemandSubject, IsHeldPlace, IsImplied, AreImplied, AddsNarrowing, MayDivideEach, Admits, AdmitsOrdered, IsCutAt, AreCut, IsPossibleAt, IsMissedAt, AreAdmitted, end_of, IsPast, IsFoundAt, IsEndTried, AllTrueNow, AreEndsPossible, TriesPlace, member_of, IsPassedOver, AreTried}
+use Rattle.cps_p_arith.specs.Demands.{body_by, AreEndsNow, AreMeasured, LieWithinBounds, IsDemandMissed, IsDemandSubject, IsHeldPlace, IsImplied, AreImplied, AddsNarrowing, MayDivideEach, MayLeaveEach, Admits, AdmitsOrdered, IsCutAt, AreCut, IsPossibleAt, IsMissedAt, AreAdmitted, end_of, IsPast, IsFoundAt, IsEndTried, AllTrueNow, AreEndsPossible, TriesPlace, member_of, IsPassedOver, AreTried}
+use Rattle.cps_p_arith.proofs.Leaving.{leave_wider}
 use Rattle.cps_p_arith.proofs.Zips.{zip_length, zip_at, zip_weaker}
 use Rattle.cps_p_arith.proofs.Holding.{either, all_but_last, all_last}
 
@@ -32,6 +33,9 @@ is_greatest Greatest = true
 
 no_greatest_quotient : Quotient ≡ Greatest → ⊥
 no_greatest_quotient h = true≢false (sym (ap is_greatest h))
+
+no_greatest_remainder : Remainder ≡ Greatest → ⊥
+no_greatest_remainder h = true≢false (sym (ap is_greatest h))
 
 no_greatest_product : Product ≡ Greatest → ⊥
 no_greatest_product h = true≢false (sym (ap is_greatest h))
@@ -262,6 +266,19 @@ module _ (R : ℕ → Ends → Type 0) (may : Ranges) (f : (j : ℕ) (e : Ends) 
   divide_in t (i ∷ j ∷ k ∷ is) e (a ∷ b ∷ []) own rest h = absurd rest.1.1
   divide_in t (i ∷ j ∷ k ∷ is) e (a ∷ b ∷ c ∷ es) own rest h = absurd h
 
+  leave_in : (t : ℕ) (is : List ℕ) (e : Ends) (es : List Ends) → R t e → AllZip R is es → MayLeaveEach e es → MayLeaveIn t is may
+  leave_in t [] e [] own rest h = absurd h
+  leave_in t [] e (b ∷ es) own rest h = absurd rest
+  leave_in t (i ∷ is) e [] own rest h = absurd rest
+  leave_in t (i ∷ []) e (a ∷ []) own rest h = absurd h
+  leave_in t (i ∷ []) e (a ∷ b ∷ es) own rest h = absurd rest.1
+  leave_in t (i ∷ j ∷ is) e (a ∷ []) own rest h = absurd rest.1
+  leave_in t (i ∷ j ∷ []) e (a ∷ b ∷ []) own rest h =
+      leave_wider (IsIn a) (IsIn b) (IsIn e) (may i) (may j) (may t) (λ x g. f i a x rest.0 g) (λ x g. f j b x rest.1.0 g) (λ x g. f t e x own g) h
+  leave_in t (i ∷ j ∷ []) e (a ∷ b ∷ c ∷ es) own rest h = absurd rest.1.1
+  leave_in t (i ∷ j ∷ k ∷ is) e (a ∷ b ∷ []) own rest h = absurd rest.1.1
+  leave_in t (i ∷ j ∷ k ∷ is) e (a ∷ b ∷ c ∷ es) own rest h = absurd h
+
 module _ (s : Trail) (d : Demand) (b : Bounds) (a : AreAdmitted s d b) where
   m : AreMeasured s d b
   m = a.measured
@@ -284,7 +301,7 @@ module _ (s : Trail) (d : Demand) (b : Bounds) (a : AreAdmitted s d b) where
 
   unseen_at : (k : Relation) → d.relation ≡ k → IsExcludedBody (body_by k d.target d.exprs.items) s → ⊥
   unseen_at Quotient e excluded = excluded (divide_in (AreEndsNow s) (IsInHull s) (in_hull s) d.target d.exprs.items b.target b.members.items m.target m.members (subst (λ k. Admits k b.target b.members.items) e a.admitted))
-  unseen_at Remainder e excluded = excluded
+  unseen_at Remainder e excluded = excluded (leave_in (AreEndsNow s) (IsInHull s) (in_hull s) d.target d.exprs.items b.target b.members.items m.target m.members (subst (λ k. Admits k b.target b.members.items) e a.admitted))
   unseen_at Product e excluded = excluded (multiply_in (AreEndsNow s) (IsInHull s) (in_hull s) d.target d.exprs.items b.target b.members.items m.target m.members (subst (λ k. Admits k b.target b.members.items) e a.admitted))
   unseen_at Greatest e excluded = excluded (unseen_greatest (subst (λ k. Admits k b.target b.members.items) e a.admitted))
 
@@ -392,7 +409,9 @@ module _ (s : Trail) (d : Demand) (b : Bounds) (a : AreAdmitted s d b) where
     strong_at Quotient e =
         at_end (MayDivideIn d.target d.exprs.items) (λ g. no_greatest_quotient (sym e ∙ g))
         (λ i v o p. divide_in (IsCutAt s (place_at i v)) (IsInHullAt s i v) (in_cut s i v o) d.target d.exprs.items p.bounds.target p.bounds.members.items p.cut.target p.cut.members (subst (λ k. Admits k p.bounds.target p.bounds.members.items) e p.admitted))
-    strong_at Remainder e = tt
+    strong_at Remainder e =
+        at_end (MayLeaveIn d.target d.exprs.items) (λ g. no_greatest_remainder (sym e ∙ g))
+        (λ i v o p. leave_in (IsCutAt s (place_at i v)) (IsInHullAt s i v) (in_cut s i v o) d.target d.exprs.items p.bounds.target p.bounds.members.items p.cut.target p.cut.members (subst (λ k. Admits k p.bounds.target p.bounds.members.items) e p.admitted))
     strong_at Product e =
         at_end (MayMultiplyIn d.target d.exprs.items) (λ g. no_greatest_product (sym e ∙ g))
         (λ i v o p. multiply_in (IsCutAt s (place_at i v)) (IsInHullAt s i v) (in_cut s i v o) d.target d.exprs.items p.bounds.target p.bounds.members.items p.cut.target p.cut.members (subst (λ k. Admits k p.bounds.target p.bounds.members.items) e p.admitted))

@@ -68,6 +68,13 @@ quotient_from (negsuc a) d p q = absurd (omega (arith, ints))
 pub quotient_reached : (n d : ℤ) → pos 0 ≤ℤ n → (int_div n d *ℤ d) ≤ℤ n
 quotient_reached n d p = let sum = quot-rem n d in let rest = rest_positive n d p in omega (arith, ints)
 
+pub quotient_next : (n d : ℤ) → pos 1 ≤ℤ d → n <ℤ ((int_div n d +ℤ pos 1) *ℤ d)
+quotient_next n d p =
+    let sum = quot-rem n d in
+    let less = below (int_rem n d) d p (rest_less n d (λ e. absurd (omega (arith, ints)))) in
+    let next = next_times (int_div n d) d in
+    omega (arith, ints)
+
 pub quotient_size : (n d : ℤ) (m : ℕ) → unsigned_abs n ≤ m → unsigned_abs (int_div n d) ≤ m
 quotient_size n d m h = let e = size_div n d in let l = div-le_self (unsigned_abs n) (unsigned_abs d) in omega arith
 

@@ -1,5 +1,5 @@
 -- What is demanded of a target and its members, and what bounds of their values say of it.
-use Rattle.std.specs.Prelude.{◌≡◌, ◌≢◌, ◌⊎◌, ℕ, ◌<◌, ℤ, pos, ◌≤ℤ◌, ◌<ℤ◌, true, false, Bool, Option, Some, None, List, [], ◌∷◌, ◌++◌, length, slice_index_or, All}
+use Rattle.std.specs.Prelude.{◌≡◌, ◌≢◌, ◌⊎◌, ℕ, ◌<◌, ℤ, pos, ◌≤ℤ◌, ◌<ℤ◌, true, false, Bool, Option, Some, None, List, [], ◌∷◌, ◌++◌, length, slice_index_or, All, Contains}
 use Rattle.std.specs.List.{AllZip}
 use Rattle.cps_model.specs.Arithmetic.{IsQuotient, IsRemainder, IsProduct, IsGreatest}
 use Rattle.cps_literal.specs.declared.atom.Atom.{Atom}
@@ -11,7 +11,8 @@ use Rattle.cps_instance.specs.Parts.{values_at}
 use Rattle.cps_trail.specs.Trail.{Trail, admits, IsWithin, IsTrueNow}
 use Rattle.cps_trail.specs.Changes.{IsHull}
 use Rattle.cps_rule.specs.Rules.{AreFacts, AllTrueAt}
-use Rattle.cps_propagate.specs.Arithmetic.{MayMultiply, MayDivide}
+use Rattle.cps_propagate.specs.Arithmetic.{MayMultiply, MayDivide, MayLeave}
+use Rattle.cps_propagate.specs.Reasons.{SpeaksOf}
 use Rattle.cps_p_arith.specs.declared.ends.Ends.{Ends}
 use Rattle.cps_p_arith.specs.declared.bounds.Bounds.{Bounds}
 use Rattle.cps_p_arith.specs.declared.bounds.Demand.{Demand}
@@ -48,15 +49,19 @@ IsExcludedBy k target members = (v : ℤ) (ns : List ℤ) → IsIn target v → 
 abbrev pub IsComputed : Relation → Ends → List Ends → Type 0
 IsComputed k target members = (v : ℤ) (ns : List ℤ) → IsAt target v → AreAt members ns → Relates k v ns
 
--- two ends of a quotient's members
+-- the ends of two members, of which a quotient is taken, or what is left
 abbrev pub MayDivideEach : Ends → List Ends → Type 0
 MayDivideEach target (n ∷ d ∷ []) = MayDivide (IsIn n) (IsIn d) (IsIn target)
 MayDivideEach target members = ⊥
 
--- what a kind asks of values between ends; of remainders nothing
+abbrev pub MayLeaveEach : Ends → List Ends → Type 0
+MayLeaveEach target (n ∷ d ∷ []) = MayLeave (IsIn n) (IsIn d) (IsIn target)
+MayLeaveEach target members = ⊥
+
+-- what a kind asks of values between ends
 abbrev pub Admits : Relation → Ends → List Ends → Type 0
 Admits Quotient target members = MayDivideEach target members
-Admits Remainder target members = Unit {0}
+Admits Remainder target members = MayLeaveEach target members
 Admits Product target members = MayMultiply (AreIn members) (IsIn target)
 Admits Greatest target members = MayReach target members
 
@@ -138,28 +143,33 @@ pub record Needs (s : Trail) (supposed : Option Atom) (u : Atom) (old new : List
   pub facts : AreFacts s new
   pub keeps : (xs : List ℤ) → AllTrueAt xs new → AllTrueAt xs old
   pub holds : (xs : List ℤ) → AllTrueAt xs new → IsSupposed supposed xs → atom_holds xs u ≡ true
+  pub about : (is : List ℕ) → Contains is u.subject → SpeaksOf is old → SpeaksOf is new
 
 -- and within the first domains
 pub record NeedsWithin (s : Trail) (supposed : Option Atom) (u : Atom) (old new : List Atom) : Type 0 where
   pub facts : AreFacts s new
   pub keeps : (xs : List ℤ) → AllTrueAt xs new → AllTrueAt xs old
   pub holds : (xs : List ℤ) → IsWithin s.first xs → AllTrueAt xs new → IsSupposed supposed xs → atom_holds xs u ≡ true
+  pub about : (is : List ℕ) → Contains is u.subject → SpeaksOf is old → SpeaksOf is new
 
 -- after more facts a subject's value lies between ends wherever they are and what is supposed is
 pub record SupportsEnds (s : Trail) (supposed : Option Atom) (i : ℕ) (e : Ends) (old new : List Atom) : Type 0 where
   pub facts : AreFacts s new
   pub keeps : (xs : List ℤ) → AllTrueAt xs new → AllTrueAt xs old
   pub holds : (xs : List ℤ) → IsWithin s.first xs → AllTrueAt xs new → IsSupposed supposed xs → IsHeldIn xs i e
+  pub about : (is : List ℕ) → Contains is i → SpeaksOf is old → SpeaksOf is new
 
 -- and those of several subjects
 pub record SupportsEach (s : Trail) (supposed : Option Atom) (is : List ℕ) (es : List Ends) (old new : List Atom) : Type 0 where
   pub facts : AreFacts s new
   pub keeps : (xs : List ℤ) → AllTrueAt xs new → AllTrueAt xs old
   pub holds : (xs : List ℤ) → IsWithin s.first xs → AllTrueAt xs new → IsSupposed supposed xs → AreHeldEach xs is es
+  pub about : (js : List ℕ) → All (Contains js) is → SpeaksOf js old → SpeaksOf js new
 
--- facts beside which, and beside what is supposed, the demand is not met
+-- facts about a demand's subjects beside which, and beside what is supposed, the demand is not met
 pub record RefutesDemand (s : Trail) (d : Demand) (supposed : Option Atom) (facts : List Atom) : Type 0 where
   pub true_now : AreFacts s facts
+  pub speaks : SpeaksOf (d.target ∷ d.exprs.items) facts
   pub excludes : (xs : List ℤ) → IsWithin s.first xs → AllTrueAt xs facts → IsSupposed supposed xs → IsDemandMet d xs → ⊥
 
 -- the first domains of a demand's subjects are in order

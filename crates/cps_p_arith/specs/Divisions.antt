@@ -1,5 +1,6 @@
 -- Division that rounds towards zero.
 use Rattle.std.specs.Prelude.{◌≡◌, ◌<◌, ℤ, pos, ◌+ℤ◌, ◌*ℤ◌, ◌≤ℤ◌, unsigned_abs}
+use Rattle.cps_propagate.specs.Arithmetic.{MayLeaveUnsigned, MayLeaveBy}
 use Rattle.cps_p_arith.specs.declared.range.Range.{Range}
 use Rattle.cps_p_arith.specs.Ranges.{IsBetween}
 
@@ -26,3 +27,13 @@ pub record ReachesUp (q n least most : ℤ) : Type 0 where
 pub record HasQuotients (quotient number divisor : Range) : Type 0 where
   pub low : ReachesDown quotient.high number.low divisor.low divisor.high
   pub high : ReachesUp quotient.low number.high divisor.low divisor.high
+
+-- something in a range may be left of a range's numbers that are not negative, by positive divisors of a range
+abbrev pub LeavesUnsigned : Range → Range → Range → Type 0
+LeavesUnsigned rest number divisor = MayLeaveUnsigned (IsBetween number.low number.high) (IsBetween divisor.low divisor.high)
+    (IsBetween rest.low rest.high)
+
+-- of these or of their opposites
+abbrev pub LeavesSome : Range → Range → Range → Type 0
+LeavesSome rest number divisor = MayLeaveBy (IsBetween number.low number.high) (IsBetween divisor.low divisor.high)
+    (IsBetween rest.low rest.high)

@@ -1,5 +1,6 @@
 use Rattle.std.proofs.Common.{pos}
 use Rattle.cps_p_arith.proofs.Rests.{of_two_left, not_two_left, at_two_left}
+use Rattle.cps_p_arith.proofs.Leaving.{leave_two}
 use Rattle.cps_p_arith.proofs.remainder.excludes_remainder.Goals as goal
 
 pub returns-then-members-eq2-clause-sound : goal.returns-then-members-eq2-clause-sound
@@ -14,3 +15,8 @@ returns-then-members-eq2-clause-exact c = λ f v ns hv h.
 
 pub returns-clause-sound : goal.returns-clause-sound
 returns-clause-sound c = λ _ v ns hv h q. not_two_left c.args.members.now ns v c.if-members-eq2.false h q
+
+pub returns-then-members-eq2-clause-possible : goal.returns-then-members-eq2-clause-possible
+returns-then-members-eq2-clause-possible c = λ f o all.
+    leave_two c.args.members.now c.args.target (record { low = pos 0; high = pos 0 }) (record { low = pos 0; high = pos 0 }) c.if-members-eq2.true
+    (λ n. c.excludes_pair.ensures.possible f o n) all

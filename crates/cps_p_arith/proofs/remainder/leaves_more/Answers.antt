@@ -5,8 +5,8 @@ use Rattle.cps_p_arith.proofs.Pairs.{product_fits}
 use Rattle.cps_p_arith.proofs.Rests.{leaves_more, gap_fits}
 use Rattle.cps_p_arith.proofs.remainder.leaves_more.Goals as goal
 
-pub returns : goal.returns
-returns c =
+pub returns-clause-sound : goal.returns-clause-sound
+returns-clause-sound c =
     let k = c.args.quotient.low in
     let l = c.args.number.low in
     let h = c.args.rest.high in
@@ -18,6 +18,20 @@ returns c =
     let fg : FitsSigned w128 (l -ℤ h) = gap_fits l h c.requires.number.low c.requires.rest.high in
     let fm : FitsSigned w128 (k *ℤ d) = product_fits k d (let s = c.requires.quotient.low in omega arith) c.requires.divisor.high in
     simp to_z-of_z (λ t n e r ln dm v rh. leaves_more k d h l n e r c.requires.from dm (grind (arith, ints, t)) ln rh v)
+
+pub returns-clause-exact : goal.returns-clause-exact
+returns-clause-exact c =
+    let k = c.args.quotient.low in
+    let l = c.args.number.low in
+    let h = c.args.rest.high in
+    let d = c.args.divisor.high in
+    let fk : FitsSigned w128 k = search rules in
+    let fl : FitsSigned w128 l = search rules in
+    let fh : FitsSigned w128 h = search rules in
+    let fd : FitsSigned w128 d = search rules in
+    let fg : FitsSigned w128 (l -ℤ h) = gap_fits l h c.requires.number.low c.requires.rest.high in
+    let fm : FitsSigned w128 (k *ℤ d) = product_fits k d (let s = c.requires.quotient.low in omega arith) c.requires.divisor.high in
+    simp to_z-of_z (λ f. (grind (arith, ints, f)))
 
 pub overflow_mul-result : goal.overflow_mul-result
 overflow_mul-result c =

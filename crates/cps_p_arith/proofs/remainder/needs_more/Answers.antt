@@ -5,8 +5,8 @@ use Rattle.cps_p_arith.proofs.Pairs.{product_fits}
 use Rattle.cps_p_arith.proofs.Rests.{needs_more, gap_fits}
 use Rattle.cps_p_arith.proofs.remainder.needs_more.Goals as goal
 
-pub returns : goal.returns
-returns c =
+pub returns-clause-sound : goal.returns-clause-sound
+returns-clause-sound c =
     let k = c.args.quotient.low in
     let h = c.args.number.high in
     let l = c.args.rest.low in
@@ -18,6 +18,20 @@ returns c =
     let fg : FitsSigned w128 (h -ℤ l) = gap_fits h l c.requires.number.high c.requires.rest.low in
     let fm : FitsSigned w128 (k *ℤ d) = product_fits k d (let s = c.requires.quotient.low in omega arith) c.requires.divisor.low in
     simp to_z-of_z (λ t n e r nh ld v rl. needs_more k d l h n e r c.requires.from ld (grind (arith, ints, t)) nh rl v)
+
+pub returns-clause-exact : goal.returns-clause-exact
+returns-clause-exact c =
+    let k = c.args.quotient.low in
+    let h = c.args.number.high in
+    let l = c.args.rest.low in
+    let d = c.args.divisor.low in
+    let fk : FitsSigned w128 k = search rules in
+    let fh : FitsSigned w128 h = search rules in
+    let fl : FitsSigned w128 l = search rules in
+    let fd : FitsSigned w128 d = search rules in
+    let fg : FitsSigned w128 (h -ℤ l) = gap_fits h l c.requires.number.high c.requires.rest.low in
+    let fm : FitsSigned w128 (k *ℤ d) = product_fits k d (let s = c.requires.quotient.low in omega arith) c.requires.divisor.low in
+    simp to_z-of_z (λ f. (grind (arith, ints, f)))
 
 pub overflow_mul-result : goal.overflow_mul-result
 overflow_mul-result c =
