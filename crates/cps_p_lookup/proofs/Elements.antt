@@ -16,6 +16,7 @@ use Rattle.cps_propagate.specs.Now.{IsOpenTo, IsFixedNow, AreOpen}
 use Rattle.cps_propagate.specs.Lookups.{IsStrongElement, MayBeElement}
 use Rattle.cps_rule.specs.Rules.{IsFittingRule, IsGiven, IsImpossible, IsAtRest, AllTrueAt, AreFacts}
 use Rattle.cps_p_lookup.specs.declared.places.Scan.{Scan}
+use Rattle.cps_propagate.specs.Reasons.{SpeaksOf}
 use Rattle.cps_rule.specs.Facts.{GivesGoal, Denied}
 use Rattle.cps_p_lookup.specs.Elements.{IsFitElement, IsChosen, IsScanned}
 
@@ -111,6 +112,6 @@ at_rest s i t es scan h some strong = record { decided = fixed_holds; strong = s
         })
 
 -- facts that close each place
-pub gives_by : (s : Trail) (i t : ℕ) (es : List ℕ) (goal : Option Atom) (facts : List Atom) → AreFacts s facts
+pub gives_by : (s : Trail) (i t : ℕ) (es : List ℕ) (goal : Option Atom) (facts : List Atom) → AreFacts s facts → SpeaksOf (i ∷ t ∷ es) facts
     → ((k : ℕ) → k < length es → (xs : List ℤ) → AllTrueAt xs facts → IsChosen i t (get_or es k 0) k xs → Denied goal xs → ⊥) → GivesGoal (Element i t es) s goal facts
-gives_by s i t es goal facts are h = record { facts = are; excludes = λ xs within all holds deny. (let c = chosen i t es xs holds in h c.0 c.1 xs all c.2 deny) }
+gives_by s i t es goal facts are speaks h = record { facts = are; speaks = speaks; excludes = λ xs within all holds deny. (let c = chosen i t es xs holds in h c.0 c.1 xs all c.2 deny) }

@@ -12,3 +12,4 @@ pub mod Answering
 pub mod Meeting
 mod Cells
 mod Seeking
+pub mod Ending

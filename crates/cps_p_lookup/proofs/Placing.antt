@@ -3,8 +3,8 @@ use Rattle.std.specs.Prelude.{not}
 use Rattle.std.proofs.Common.{◌≡◌, ℕ, ℤ, pos, ◌+◌, ◌-◌, ◌^◌, ◌<◌, ◌≤◌, ◌≤ℤ◌, Bool, true, false, List, [], ◌∷◌, ◌++◌, length, get_or, refl, sym, ap, subst, ◌∙◌, Option, arith, inl, inr}
 use Rattle.std.proofs.lemmas.Int.{ints}
 use Rattle.std.proofs.lemmas.Bool.{cases_lt}
-use Rattle.std.specs.List.{All}
-use Rattle.std.proofs.lemmas.List.Elements.{All-get_or, All-push}
+use Rattle.std.specs.List.{All, Contains}
+use Rattle.std.proofs.lemmas.List.Elements.{All-nil, All-cons, All-get_or, All-push, All-contains_itself, Contains-get_or, Contains-append_right}
 use Rattle.cps_domain.specs.Window.{Window, contains, equals}
 use Rattle.cps_domain.proofs.Tests.{true_le}
 use Rattle.cps_literal.specs.declared.atom.Atom.{Atom}
@@ -14,12 +14,12 @@ use Rattle.cps_instance.specs.declared.task.Body.{Body}
 use Rattle.cps_instance.specs.declared.task.Body.TheVariants.{Element}
 use Rattle.cps_trail.specs.Trail.{Trail, Domains, IsAdmitted, admits}
 use Rattle.cps_rule.specs.declared.rule.Narrowing.{Narrowing}
-use Rattle.cps_rule.specs.Rules.{IsFittingRule, IsGiven, AllTrueAt, AreFacts}
+use Rattle.cps_rule.specs.Rules.{IsFittingRule, IsGiven, AllTrueAt}
 use Rattle.cps_p_lookup.specs.declared.places.Scan.{Scan}
 use Rattle.cps_p_lookup.specs.Facts.{AddsWhere}
 use Rattle.cps_rule.specs.Facts.{Grows, GivesGoal}
 use Rattle.cps_p_lookup.specs.Elements.{IsFitElement, IsChosen, IsCovered, IsSeenAt, IsPlaceVisited, IsClosed, Closes, IsLeft}
-use Rattle.cps_p_lookup.proofs.Growing.{grows_trans}
+use Rattle.cps_p_lookup.proofs.Growing.{grows_trans, no_facts, none_speaks}
 use Rattle.cps_p_lookup.proofs.Opening.{last_skipped}
 use Rattle.cps_p_lookup.proofs.Elements.{fit_of, given_by, gives_by, ge_holds, le_holds}
 
@@ -97,7 +97,7 @@ seen_all s i t es I scan low high p q from to n f ofI least greatest isp isq fir
 pub left_by : (s : Trail) (i : ℕ) (es : List ℕ) (u v : Atom) (low high : ℤ) (from to : ℕ) (o m n : List Atom) (p q : Bool) → AddsWhere s p u o m → AddsWhere s q v m n → u ≡ record { subject = i; op = Ge; value = low } → v ≡ record { subject = i; op = Le; value = high }
     → (0 < from → p ≡ true) → (to < length es → q ≡ true) → ((k : ℕ) → low ≤ℤ pos k → from ≤ k) → ((k : ℕ) → k < length es → pos k ≤ℤ high → k < to) → to ≤ length es → length es < 2 ^ 62 → IsLeft s i es o n (from, to)
 left_by s i es u v low high from to o m n p q a b isu isv needp needq first end inside small = record {
-  grows = grows_trans s o m n a.grows b.grows;
+  grows = grows_trans s (i ∷ []) o m n (subst (λ (j : ℕ). Grows s (j ∷ []) o m) (ap (λ (w : Atom). w.subject) isu) a.grows) (subst (λ (j : ℕ). Grows s (j ∷ []) m n) (ap (λ (w : Atom). w.subject) isv) b.grows);
   inside = inside;
   small = omega arith;
   covers = λ k l xs all at. (lower k xs all at, upper k l xs all at);
@@ -122,9 +122,17 @@ closed_more s i t es from n goal old new h v k a b = elim (cases_lt k n) [
   | inr after ↦ (let is : k ≡ n = omega arith in subst (λ m. IsClosed i t (get_or es m 0) m goal new) (sym is) v.closed)
 ]
 
-pub gives_all : (s : Trail) (i t : ℕ) (es : List ℕ) (goal : Option Atom) (none old new : List Atom) (window : ℕ × ℕ) (n : ℕ) → AreFacts s none → IsLeft s i es none old window → Grows s old new → window.1 ≤ n
+-- what a place is closed by is about the element's subjects
+pub named : (i t : ℕ) (es : List ℕ) (k : ℕ) → k < length es → All (Contains (i ∷ t ∷ es)) (i ∷ t ∷ get_or es k 0 ∷ [])
+named i t es k l =
+    let P : ℕ → Type 0 = Contains (i ∷ t ∷ es) in
+    All-cons P i (t ∷ get_or es k 0 ∷ []) (0, omega arith, refl)
+    (All-cons P t (get_or es k 0 ∷ []) (1, omega arith, refl) (All-cons P (get_or es k 0) [] (Contains-append_right (i ∷ t ∷ []) es (get_or es k 0) (Contains-get_or es k 0 l)) (All-nil P)))
+
+pub gives_all : (s : Trail) (i t : ℕ) (es : List ℕ) (goal : Option Atom) (none old new : List Atom) (window : ℕ × ℕ) (n : ℕ) → none ≡ [] → IsLeft s i es none old window → Grows s (i ∷ t ∷ es) old new → window.1 ≤ n
     → ((k : ℕ) → window.0 ≤ k → k < n → IsClosed i t (get_or es k 0) k goal new) → GivesGoal (Element i t es) s goal new
-gives_all s i t es goal none old new window n are left grows past closed = gives_by s i t es goal new (grows.facts (left.grows.facts are))
+gives_all s i t es goal none old new window n empty left grows past closed = gives_by s i t es goal new (grows.facts (left.grows.facts (no_facts s none empty)))
+    (grows.about (i ∷ t ∷ es) (All-contains_itself (i ∷ t ∷ es)) (left.grows.about (i ∷ t ∷ es) (All-cons (Contains (i ∷ t ∷ es)) i [] (0, omega arith, refl) (All-nil (Contains (i ∷ t ∷ es)))) (none_speaks (i ∷ t ∷ es) none empty)))
     (λ k l xs all c deny. let w = left.covers k l xs (grows.kept xs all) c.index in let lo = w.0 in let hi = w.1 in (closed k lo (omega arith)).at xs all c deny)
 
 pub fit_seen : (first : Domains) (i t : ℕ) (es : List ℕ) (j u : ℕ) (fs : List ℕ) → IsFittingRule first (Element i t es) → j ≡ i → u ≡ t → fs ≡ es → IsFitElement first j u fs
@@ -138,3 +146,8 @@ fit_seen first i t es j u fs f a b c =
 
 pub body_seen : (i t : ℕ) (es : List ℕ) (j u : ℕ) (fs : List ℕ) → j ≡ i → u ≡ t → fs ≡ es → Element j u fs ≡ Element i t es
 body_seen i t es j u fs a b c = ap (λ n. Element n u fs) a ∙ ap (λ n. Element i n fs) b ∙ ap (λ ns. Element i t ns) c
+
+-- the same of a body, which is seen through its parts
+pub seen_gives : (s : Trail) (i t : ℕ) (es : List ℕ) (j u : ℕ) (js : List ℕ) → j ≡ i → u ≡ t → js ≡ es → (goal : Option Atom) (facts : List Atom) → GivesGoal (Element j u js) s goal facts → GivesGoal (Element i t es) s goal facts
+seen_gives s i t es j u js e f h goal facts g =
+    subst (λ (k : ℕ). GivesGoal (Element k t es) s goal facts) e (subst (λ (k : ℕ). GivesGoal (Element j k es) s goal facts) f (subst (λ (ks : List ℕ). GivesGoal (Element j u ks) s goal facts) h g))

@@ -1,7 +1,7 @@
 -- The rows that do not give an atom, and facts that rule them out.
 use Rattle.std.proofs.Common.{◌≡◌, ℕ, ℤ, pos, negsuc, ◌+◌, ◌-◌, ◌*◌, ◌^◌, ◌<◌, ◌≤◌, ◌≤ℤ◌, false, List, [], length, take, get_or, sym, ap, subst, ◌∙◌, Option, Some}
 use Rattle.std.specs.List.{All}
-use Rattle.std.proofs.lemmas.List.Elements.{All-more, All-weaker, All-contains}
+use Rattle.std.proofs.lemmas.List.Elements.{All-more, All-weaker, All-contains, All-contains_itself}
 use Rattle.cps_literal.specs.declared.atom.Atom.{Atom}
 use Rattle.cps_literal.specs.Truth.{value_at, meets}
 use Rattle.cps_model.specs.Lookups.{row_at}
@@ -11,7 +11,7 @@ use Rattle.cps_rule.specs.Facts.{Grows, GivesGoal}
 use Rattle.cps_p_lookup.specs.declared.index.Cell.{Cell}
 use Rattle.cps_p_lookup.specs.Cells.{value_in, IsWord, IsCellIn, HasCell, IsColumnOf, CoversUnmet}
 use Rattle.cps_p_lookup.specs.Tabling.{ClosesRow, IsClosedRow, AreSought}
-use Rattle.cps_p_lookup.proofs.Growing.{no_facts}
+use Rattle.cps_p_lookup.proofs.Growing.{no_facts, none_speaks}
 use Rattle.cps_p_lookup.proofs.Tables.{row_value, in_table}
 
 -- cells of all rows
@@ -48,9 +48,10 @@ closed_more s es values goal old new cells k d row l is closes h =
     (λ xs all e deny. closes.closed xs all (e ∙ sym is) deny)
 
 -- all of them
-pub closed_gives : (s : Trail) (es : List ℕ) (values : List ℤ) (goal : Option Atom) (none new : List Atom) (cells : List Cell) → 0 < length es → none ≡ [] → Grows s none new → AreSought es values goal cells → All (λ (cell : Cell). IsClosedRow es values goal new cell.row) cells → GivesGoal (Table es values false) s goal new
+pub closed_gives : (s : Trail) (es : List ℕ) (values : List ℤ) (goal : Option Atom) (none new : List Atom) (cells : List Cell) → 0 < length es → none ≡ [] → Grows s es none new → AreSought es values goal cells → All (λ (cell : Cell). IsClosedRow es values goal new cell.row) cells → GivesGoal (Table es values false) s goal new
 closed_gives s es values goal none new cells p empty grows sought h = record {
   facts = grows.facts (no_facts s none empty);
+  speaks = grows.about es (All-contains_itself es) (none_speaks es none empty);
   excludes = λ xs within all holds deny.
       let r = in_table xs es values p holds in
       let listed = sought.every xs deny r.0 r.1 r.2 in

@@ -17,14 +17,14 @@ use Rattle.cps_instance.specs.Tasks.{HoldsBody}
 use Rattle.cps_instance.specs.Parts.{values_at}
 use Rattle.cps_trail.specs.Trail.{Trail, IsAdmitted, admits}
 use Rattle.cps_propagate.specs.Now.{IsOpenTo, IsFixedNow, AreOpen}
-use Rattle.cps_propagate.specs.Strength.{HasOpenRow, IsExcludedBody}
-use Rattle.cps_propagate.specs.Lookups.{cell, IsSureAt, IsRowMissed}
+use Rattle.cps_propagate.specs.Strength.{IsExcludedBody}
+use Rattle.cps_propagate.specs.Lookups.{cell, IsOpenRowAt, IsSureAt, IsRowMissed}
 use Rattle.cps_rule.specs.declared.rule.Narrowing.{Narrowing}
 use Rattle.cps_rule.specs.Rules.{IsGiven, IsImpossible, IsAtRest}
 use Rattle.cps_p_lookup.specs.Resting.{AreTrue, LeavesAtRest}
 use Rattle.cps_p_lookup.specs.declared.index.Cell.{Cell}
 use Rattle.cps_p_lookup.specs.Cells.{value_in, HasCell}
-use Rattle.cps_p_lookup.specs.Tabling.{IsOpenRow, IsDeadRow, IsLive, AreLive, ListsLive, IsSingle, HasOtherValue, IsBanned, IsMissed}
+use Rattle.cps_p_lookup.specs.Tabling.{IsOpenRow, IsDeadRow, IsLive, HasEndRows, AreLive, ListsLive, IsSingle, HasOtherValue, IsBanned, IsMissed}
 
 both_not : (b : Bool) → b ≡ true → b ≡ false → ⊥
 both_not b p q = let e : true ≡ false = sym p ∙ q in cc
@@ -139,30 +139,32 @@ none_live s es values (r ∷ rows) p f live none = absurd (omega (arith, none))
 row_long : (w : ℕ) (values : List ℤ) (r : ℕ) → (r + 1) * w ≤ length values → length (row_at w values r) ≡ w
 row_long w values r l = let e : (r + 1) * w ≡ r * w + w = omega arith in simp (length-take, length-drop) (omega arith)
 
--- a live row may be had
-one_open : (s : Trail) (es : List ℕ) (values : List ℤ) (r : ℕ) → IsLive s es values r → HasOpenRow s es values
-one_open s es values r is = record { row = r; within = is.within; possible = is.open_row.at }
+-- a row that is left may be had
+open_at : (s : Trail) (es : List ℕ) (values : List ℤ) (r : ℕ) → IsLive s es values r → IsOpenRowAt s es values r
+open_at s es values r is = record { within = is.within; possible = is.open_row.at }
 
-pub one_seen : (s : Trail) (es : List ℕ) (values : List ℤ) (r : ℕ) → IsLive s es values r → IsExcludedBody (Table es values false) s → ⊥
-one_seen s es values r is = λ excluded. excluded (one_open s es values r is)
+pub ends_seen : (s : Trail) (es : List ℕ) (values : List ℤ) → 0 < length es → HasEndRows s es values (length es) → IsExcludedBody (Table es values false) s → ⊥
+ends_seen s es values p h excluded = let one = (h 0 p).some in excluded one.0 (open_at s es values one.0 one.1)
 
-pub live_seen : (s : Trail) (es : List ℕ) (values : List ℤ) (rows : List ℕ) → AreLive s es values rows → length rows ≢ 0 → IsExcludedBody (Table es values false) s → ⊥
-live_seen s es values [] live some = absurd (some refl)
-live_seen s es values (r ∷ rows) live some = one_seen s es values r (All-get_or (IsLive s es values) (r ∷ rows) 0 0 (omega arith) live.each)
+pub live_seen : (s : Trail) (es : List ℕ) (values : List ℤ) (rows : List ℕ) → AreLive s es values rows → 0 < length rows → IsExcludedBody (Table es values false) s → ⊥
+live_seen s es values rows live some excluded = let r = get_or rows 0 0 in excluded r (open_at s es values r (All-get_or (IsLive s es values) rows 0 0 some live.each))
 
--- a live row is that of all values where they are fixed
-pub one_rest : (s : Trail) (es : List ℕ) (values : List ℤ) (r : ℕ) → IsLive s es values r → IsAtRest (Table es values false) s
-one_rest s es values r is = record {
-  decided = λ fixed xs left.
-      let row = row_at (length es) values r in
-      table_in xs es values r is.within (same_row xs es row (row_long (length es) values r is.within) (λ k l.
-      All-get_or (IsFixedNow s) es k 0 l fixed (value_at xs (get_or es k 0)) (get_or row k (pos 0)) (All-get_or (λ i. IsOpenTo s i (value_at xs i)) es k 0 l left) (is.open_row.at k l)));
-  strong = one_open s es values r is;
-}
-
-pub live_rest : (s : Trail) (es : List ℕ) (values : List ℤ) (rows : List ℕ) → AreLive s es values rows → length rows ≢ 0 → IsAtRest (Table es values false) s
-live_rest s es values [] live some = absurd (some refl)
-live_rest s es values (r ∷ rows) live some = one_rest s es values r (All-get_or (IsLive s es values) (r ∷ rows) 0 0 (omega arith) live.each)
+-- a row that is left is that of all values where they are fixed
+pub ends_rest : (s : Trail) (es : List ℕ) (values : List ℤ) → 0 < length es → HasEndRows s es values (length es) → IsAtRest (Table es values false) s
+ends_rest s es values p h =
+    let one = (h 0 p).some in
+    let r = one.0 in
+    let is = one.1 in
+    record {
+      decided = λ fixed xs left.
+          (let row = row_at (length es) values r in
+          table_in xs es values r is.within (same_row xs es row (row_long (length es) values r is.within) (λ k l.
+          All-get_or (IsFixedNow s) es k 0 l fixed (value_at xs (get_or es k 0)) (get_or row k (pos 0)) (All-get_or (λ i. IsOpenTo s i (value_at xs i)) es k 0 l left) (is.open_row.at k l))));
+      strong = record {
+        some = (r, open_at s es values r is);
+        ends = λ k v l e. (let at = (h k l).at v e in (at.0, open_at s es values at.0 at.1, at.2));
+      };
+    }
 
 -- negated: a row whose columns are all single, and one of whose columns is not
 pub banned_by : (s : Trail) (es : List ℕ) (row : List ℤ) → length row ≡ length es → ((k : ℕ) → k < length es → IsSingle s (get_or es k 0) (get_or row k (pos 0))) → IsBanned s es row

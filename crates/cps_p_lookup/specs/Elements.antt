@@ -1,5 +1,5 @@
 -- The places of an index at which the expression may have the target's value.
-use Rattle.std.specs.Prelude.{◌≡◌, ◌≢◌, ◌⊎◌, ℕ, ◌<◌, ◌≤◌, ◌+◌, ◌^◌, true, ℤ, pos, ◌≤ℤ◌, List, length, slice_index_or, All, Option}
+use Rattle.std.specs.Prelude.{◌≡◌, ◌≢◌, ◌⊎◌, ℕ, ◌<◌, ◌≤◌, ◌+◌, ◌^◌, true, ℤ, pos, ◌≤ℤ◌, List, [], ◌∷◌, length, slice_index_or, All, Contains, Option}
 use Rattle.cps_domain.specs.Window.{Window, contains}
 use Rattle.cps_literal.specs.declared.atom.Atom.{Atom}
 use Rattle.cps_literal.specs.Truth.{value_at, atom_holds}
@@ -27,7 +27,7 @@ pub record IsClosed (i t e k : ℕ) (goal : Option Atom) (facts : List Atom) : T
 
 -- facts are added that close a place
 pub record Closes (s : Trail) (i t e k : ℕ) (goal : Option Atom) (old new : List Atom) : Type 0 where
-  pub grows : Grows s old new
+  pub grows : Grows s (i ∷ t ∷ e ∷ []) old new
   pub closed : IsClosed i t e k goal new
 
 -- a domain has no two values
@@ -92,6 +92,7 @@ pub record AreEndsKept (s : Trail) (t : ℕ) (es : List ℕ) (scan : Scan) : Typ
 -- an atom of the one side of an equation in the place of an atom of the other
 pub record IsAtomMoved (e t : ℕ) (goal u : Atom) : Type 0 where
   pub subject : (n : ℕ) → e < n → t < n → u.subject < n
+  pub among : (is : List ℕ) → Contains is e → Contains is t → Contains is u.subject
   pub at : (xs : List ℤ) → value_at xs e ≡ value_at xs t → atom_holds xs u ≡ true → atom_holds xs goal ≡ true
 
 -- two atoms that keep two subjects apart
@@ -102,7 +103,7 @@ pub record ArePart (e t : ℕ) (u v : Atom) : Type 0 where
 
 -- facts are added that leave the index the places of a window
 pub record IsLeft (s : Trail) (i : ℕ) (es : List ℕ) (old new : List Atom) (window : ℕ × ℕ) : Type 0 where
-  pub grows : Grows s old new
+  pub grows : Grows s (i ∷ []) old new
   pub inside : window.1 ≤ length es
   pub small : window.1 < 2 ^ 62
   pub covers : (k : ℕ) → k < length es → (xs : List ℤ) → AllTrueAt xs new → value_at xs i ≡ pos k

@@ -1,11 +1,12 @@
 -- The rows of a table.
-use Rattle.std.specs.Prelude.{◌≡◌, ◌≢◌, ℕ, ◌<◌, ◌≤◌, ◌+◌, ◌*◌, true, false, ℤ, pos, List, length, slice_index_or, All, Contains, Option}
+use Rattle.std.specs.Prelude.{◌≡◌, ◌≢◌, ℕ, ◌<◌, ◌≤◌, ◌+◌, ◌*◌, true, false, ℤ, pos, List, [], ◌∷◌, length, slice_index_or, All, Contains, Option}
 use Rattle.cps_literal.specs.declared.atom.Atom.{Atom}
 use Rattle.cps_literal.specs.Truth.{value_at, meets}
 use Rattle.cps_model.specs.Lookups.{row_at}
 use Rattle.cps_instance.specs.Parts.{values_at}
 use Rattle.cps_trail.specs.Trail.{Trail, admits}
-use Rattle.cps_propagate.specs.Now.{IsOpenTo, AreOpen}
+use Rattle.cps_propagate.specs.Now.{IsOpenTo, IsEndNow, AreOpen}
+use Rattle.cps_propagate.specs.Lookups.{cell}
 use Rattle.cps_rule.specs.Rules.{AllTrueAt}
 use Rattle.cps_rule.specs.Facts.{Grows, Denied}
 use Rattle.cps_p_lookup.specs.declared.index.Cell.{Cell}
@@ -26,6 +27,15 @@ pub record IsLive (s : Trail) (es : List ℕ) (values : List ℤ) (r : ℕ) : Ty
   pub within : (r + 1) * length es ≤ length values
   pub open_row : IsOpenRow s es (row_at (length es) values r)
 
+-- there is an open row, and each end of a column stands in one
+pub record AreEndsLive (s : Trail) (es : List ℕ) (values : List ℤ) (k : ℕ) : Type 0 where
+  pub some : (r : ℕ) × IsLive s es values r
+  pub at : (v : ℤ) → IsEndNow s (slice_index_or es k 0) v → (r : ℕ) × IsLive s es values r × (cell es values r k ≡ v)
+
+-- so it is with the columns up to one
+abbrev pub HasEndRows : Trail → List ℕ → List ℤ → ℕ → Type 0
+HasEndRows s es values n = (k : ℕ) → k < n → AreEndsLive s es values k
+
 -- a list has the open rows, and no other
 pub record AreLive (s : Trail) (es : List ℕ) (values : List ℤ) (rows : List ℕ) : Type 0 where
   pub each : All (IsLive s es values) rows
@@ -38,7 +48,7 @@ pub record ListsLive (s : Trail) (es : List ℕ) (values : List ℤ) (cells : Li
 
 -- facts are added beside which the values are not a row where the atom is false
 pub record ClosesRow (s : Trail) (es : List ℕ) (row : List ℤ) (goal : Option Atom) (old new : List Atom) : Type 0 where
-  pub grows : Grows s old new
+  pub grows : Grows s es old new
   pub closed : (xs : List ℤ) → AllTrueAt xs new → values_at xs es ≡ row → Denied goal xs → ⊥
 
 -- the same, said of a row's number
@@ -103,10 +113,10 @@ pub record IsOffBy (i : ℕ) (v : ℤ) (u : Atom) : Type 0 where
 
 -- facts are added beside which all values are a row's where the atom is false
 pub record AreSure (s : Trail) (es : List ℕ) (row : List ℤ) (goal : Option Atom) (old new : List Atom) : Type 0 where
-  pub grows : Grows s old new
+  pub grows : Grows s es old new
   pub at : (k : ℕ) → k < length es → IsSure (slice_index_or es k 0) (slice_index_or row k (pos 0)) goal new
 
 -- one such fact is added, where it is needed
 pub record AddsNeededFact (s : Trail) (i : ℕ) (v : ℤ) (goal : Option Atom) (old new : List Atom) : Type 0 where
-  pub grows : Grows s old new
+  pub grows : Grows s (i ∷ []) old new
   pub sure : IsSure i v goal new

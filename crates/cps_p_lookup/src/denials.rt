@@ -144,7 +144,7 @@ fn push_chosen(
     facts: &mut Vec<Atom>,
 ) -> Result<(), AllocError>
     requires fits { All (λ e. e < length past.now.first) exprs.now }
-    ensures { OnOk result (Grows past.now facts.old.items facts.new.items) }
+    ensures { OnOk result (Grows past.now exprs.now facts.old.items facts.new.items) }
 {
     for choice in choices {
         if choice.column < exprs.len() {

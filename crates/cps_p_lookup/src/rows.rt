@@ -1,27 +1,26 @@
 //! The rows of a table that are left, and what they leave to each column.
 //!
-//! A look first asks what is kept from the last (`supports`) whether a subject has a value to lose. Where none has, one
-//! row that is left is all that the proof needs. Else the rows are scanned whose value in some column lies between the
+//! A look first asks what is kept from the last (`supports`) whether a subject has a value to lose. Where none has, it
+//! names rows that have the ends of each column, and these are tested. Else the rows are scanned whose value in some column lies between the
 //! ends of its subject, of the column where they are fewest, and those that the domains leave are listed; then each
 //! column's subject is kept between the ends of its values there, and off the values inside that no row has.
 
-ghost use Rattle.std.specs.Prelude.{ℕ, ℤ, pos, ◌≡◌, ◌<◌, ◌≤◌, ◌+◌, ◌*◌, List, length, All, IfOk, OnOk, true, false, slice_index_or, Contains};
-ghost use Rattle.cps_literal.specs.Truth.{meets};
+ghost use Rattle.std.specs.Prelude.{ℕ, ℤ, pos, ◌≡◌, ◌<◌, ◌≤◌, ◌+◌, ◌*◌, List, length, All, IfOk, OnOk, Ok, true, false, slice_index_or, Contains};
 ghost use Rattle.cps_model.specs.Lookups.{row_at};
+ghost use Rattle.cps_propagate.specs.Lookups.{cell};
 ghost use Rattle.cps_instance.specs.declared.task.Body.TheVariants.{Table};
 ghost use Rattle.cps_rule.specs.Rules.{IsGiven, IsSeen, IsAtRest};
 ghost use Rattle.cps_trail.specs.Trail.{Trail};
 ghost use Rattle.cps_p_lookup.specs.Cells.{IsCellIn, HasCell};
-ghost use Rattle.cps_p_lookup.specs.Tabling.{IsOpenRow, IsDeadRow, IsLive, AreLive, ListsLive};
-ghost use Rattle.cps_p_lookup.specs.Columns.{IsColumnIn};
+ghost use Rattle.cps_p_lookup.specs.Tabling.{IsOpenRow, IsDeadRow, IsLive, AreEndsLive, HasEndRows, AreLive, ListsLive};
+ghost use Rattle.cps_p_lookup.specs.Resting.{AreTrue, LeavesAtRest};
+ghost use Rattle.cps_p_lookup.specs.Columns.{IsColumnIn, AreEndsOf};
 
-use crate::facts::{atom, is_met};
 use crate::gaps::{Gaps, exclude_missing, is_worth};
 use crate::index::{Cell, TupleSet};
 use crate::numbering::Numbering;
-use crate::places::NO_HINT;
-use crate::supports::Supports;
-use cps_literal::{Atom, Op, Truth};
+use crate::places::{NO_HINT, bound};
+use crate::supports::{EndRows, Supports};
 use cps_rule::{Look, Narrowing};
 use cps_trail::Store;
 use std::alloc::{AllocError, Global};
@@ -153,21 +152,6 @@ fn collect(store: &Store, tuples: &TupleSet, rows: &mut Vec<usize>) -> Result<()
     Ok(())
 }
 
-/// Whether each of some rows meets an atom at a column.
-fn all_meet(values: &[i64], width: usize, rows: &[usize], column: usize, atom: Atom) -> bool
-    requires column { column < width }
-    requires rows { All (λ r. (r + 1) * width ≤ length values.now) rows.now }
-    ensures { result ≡ true → All
-        (λ r. meets atom.op atom.value (slice_index_or (row_at width values.now r) column (pos 0)) ≡ true) rows.now }
-{
-    for row in rows {
-        if !is_met(atom, row_at(values, width, *row)[column]) {
-            return false;
-        }
-    }
-    true
-}
-
 /// A column of the rows that are left.
 #[derive(Clone, Copy)]
 struct Column<'a> {
@@ -176,47 +160,20 @@ struct Column<'a> {
     place: usize,
 }
 
-/// Adds an atom about a column's subject, if each of the rows that are left meets it and it is not true already.
-fn propose(
-    store: &Store,
-    column: &Column,
-    op: Op,
-    value: i64,
-    found: &mut Vec<Narrowing>,
-) -> Result<(), AllocError>
-    requires column { IsColumnIn store.now column.now }
-    requires given { All (λ n. IsGiven
-        (Table column.now.grid.exprs.now column.now.grid.values.now false) store.now n.target) found.old.items }
-    ensures { OnOk result (All (λ n. IsGiven
-        (Table column.now.grid.exprs.now column.now.grid.values.now false) store.now n.target) found.new.items) }
-{
-    let grid = column.grid;
-    let place = column.place;
-    let target = atom(grid.exprs[place], op, value);
-    match store.truth(target) {
-        Truth::Yes => return Ok(()),
-        _ => {}
-    }
-    if all_meet(grid.values, grid.exprs.len(), column.rows, place, target) {
-        found.push(Narrowing {
-            target,
-            hint: NO_HINT,
-        })?;
-    }
-    Ok(())
-}
-
 /// The least and the greatest value of a column.
 fn ends(column: &Column) -> (i64, i64)
+    requires some { 0 < length column.now.rows.now }
     requires place { column.now.place < length column.now.grid.exprs.now }
     requires rows { All (λ r. (r + 1) * length column.now.grid.exprs.now ≤ length column.now.grid.values.now)
         column.now.rows.now }
+    ensures { AreEndsOf column.now column.now.rows.now column.now.rows.now result.0 result.1 }
 {
     let grid = column.grid;
     let place = column.place;
     let rows = column.rows;
-    let mut low = i64::MAX;
-    let mut high = i64::MIN;
+    let first = row_at(grid.values, grid.exprs.len(), rows[0])[place];
+    let mut low = first;
+    let mut high = first;
     for row in rows {
         let value = row_at(grid.values, grid.exprs.len(), *row)[place];
         low = low.min(value);
@@ -231,15 +188,19 @@ fn narrow_column(
     column: &Column,
     found: &mut Vec<Narrowing>,
 ) -> Result<(), AllocError>
+    requires some { 0 < length column.now.rows.now }
     requires column { IsColumnIn store.now column.now }
     requires given { All (λ n. IsGiven
         (Table column.now.grid.exprs.now column.now.grid.values.now false) store.now n.target) found.old.items }
-    ensures { OnOk result (All (λ n. IsGiven
+    ensures given { OnOk result (All (λ n. IsGiven
         (Table column.now.grid.exprs.now column.now.grid.values.now false) store.now n.target) found.new.items) }
+    ensures rests { OnOk result (LeavesAtRest store.now
+        (AreEndsLive store.now column.now.grid.exprs.now column.now.grid.values.now column.now.place)
+        found.old.items found.new.items) }
 {
     let (low, high) = ends(column);
-    propose(store, column, Op::Ge, low, found)?;
-    propose(store, column, Op::Le, high, found)
+    bound(store, column.grid.exprs[column.place], low, high, found)?;
+    Ok(())
 }
 
 /// Makes a list that of a column's values.
@@ -272,8 +233,9 @@ fn narrow_inside(
     requires column { IsColumnIn store.now column.now }
     requires given { All (λ n. IsGiven
         (Table column.now.grid.exprs.now column.now.grid.values.now false) store.now n.target) found.old.items }
-    ensures { OnOk result (All (λ n. IsGiven
+    ensures given { OnOk result (All (λ n. IsGiven
         (Table column.now.grid.exprs.now column.now.grid.values.now false) store.now n.target) found.new.items) }
+    ensures before { OnOk result (AreTrue store.now found.new.items → AreTrue store.now found.old.items) }
 {
     let grid = column.grid;
     let place = column.place;
@@ -297,9 +259,12 @@ fn narrow_columns(
     found: &mut Vec<Narrowing>,
 ) -> Result<(), AllocError>
     requires fits { All (λ e. e < length store.now.first) grid.now.exprs.now }
+    requires some { 0 < length rows.now }
     requires rows { AreLive store.now grid.now.exprs.now grid.now.values.now rows.now }
-    ensures { OnOk result (All (λ n. IsGiven
+    ensures given { OnOk result (All (λ n. IsGiven
         (Table grid.now.exprs.now grid.now.values.now false) store.now n.target) found.new.items) }
+    ensures ends { OnOk result (AreTrue store.now found.new.items
+        → HasEndRows store.now grid.now.exprs.now grid.now.values.now (length grid.now.exprs.now)) }
 {
     found.clear();
     for place in 0..grid.exprs.len() {
@@ -312,20 +277,6 @@ fn narrow_columns(
         narrow_inside(store, &column, gaps, found)?;
     }
     Ok(())
-}
-
-/// What the rows that are left of a table say of it.
-fn verdict(rows: &[usize]) -> Look
-    ensures seen { (s : Trail) (es : List ℕ) (values : List ℤ) → All (λ e. e < length s.first) es → 0 < length es
-        → AreLive s es values rows.now → IsSeen (Table es values false) s result }
-    ensures rest { result ≡ Look.Possible → (s : Trail) (es : List ℕ) (values : List ℤ)
-        → AreLive s es values rows.now → IsAtRest (Table es values false) s }
-{
-    let left = rows.len();
-    if left == 0 {
-        return Look::Impossible(NO_HINT);
-    }
-    Look::Possible
 }
 
 /// Whether a row is left.
@@ -342,6 +293,88 @@ fn is_left(store: &Store, grid: &Grid, row: usize) -> bool
     }
 }
 
+/// Whether a row is left: one that was tested before is.
+fn is_row_left(
+    store: &Store,
+    grid: &Grid,
+    row: usize,
+    tested: &mut Vec<usize>,
+) -> Result<bool, AllocError>
+    requires fits { All (λ e. e < length store.now.first) grid.now.exprs.now }
+    requires some { 0 < length grid.now.exprs.now }
+    requires tested { All (IsLive store.now grid.now.exprs.now grid.now.values.now) tested.old.items }
+    ensures tested { OnOk result (All (IsLive store.now grid.now.exprs.now grid.now.values.now) tested.new.items) }
+    ensures live { result ≡ Ok true → IsLive store.now grid.now.exprs.now grid.now.values.now row }
+{
+    if tested.contains(&row) {
+        return Ok(true);
+    }
+    if !is_left(store, grid, row) {
+        return Ok(false);
+    }
+    tested.push(row)?;
+    Ok(true)
+}
+
+/// Whether a row has a value at a column.
+fn has_value(grid: &Grid, row: usize, place: usize, value: i64) -> bool
+    requires row { (row + 1) * length grid.now.exprs.now ≤ length grid.now.values.now }
+    requires place { place < length grid.now.exprs.now }
+    ensures { result ≡ true → cell grid.now.exprs.now grid.now.values.now row place ≡ value }
+{
+    row_at(grid.values, grid.exprs.len(), row)[place] == value
+}
+
+/// Whether two rows are left and have the least and the greatest value of a column's subject.
+fn has_end_rows(
+    store: &Store,
+    grid: &Grid,
+    place: usize,
+    rows: EndRows,
+    tested: &mut Vec<usize>,
+) -> Result<bool, AllocError>
+    requires fits { All (λ e. e < length store.now.first) grid.now.exprs.now }
+    requires place { place < length grid.now.exprs.now }
+    requires tested { All (IsLive store.now grid.now.exprs.now grid.now.values.now) tested.old.items }
+    ensures tested { OnOk result (All (IsLive store.now grid.now.exprs.now grid.now.values.now) tested.new.items) }
+    ensures ends { result ≡ Ok true → AreEndsLive store.now grid.now.exprs.now grid.now.values.now place }
+{
+    if !is_row_left(store, grid, rows.low, tested)? {
+        return Ok(false);
+    }
+    if !is_row_left(store, grid, rows.high, tested)? {
+        return Ok(false);
+    }
+    let domain = store.domain(grid.exprs[place]);
+    Ok(
+        has_value(grid, rows.low, place, domain.min())
+            && has_value(grid, rows.high, place, domain.max()),
+    )
+}
+
+/// Whether rows that are left have the least and the greatest value of each column's subject.
+fn have_end_rows(
+    store: &Store,
+    grid: &Grid,
+    ends: &[EndRows],
+    tested: &mut Vec<usize>,
+) -> Result<bool, AllocError>
+    requires fits { All (λ e. e < length store.now.first) grid.now.exprs.now }
+    ensures { result ≡ Ok true
+        → HasEndRows store.now grid.now.exprs.now grid.now.values.now (length grid.now.exprs.now) }
+{
+    tested.clear();
+    for place in 0..grid.exprs.len() {
+        if place >= ends.len() {
+            return Ok(false);
+        }
+        if !has_end_rows(store, grid, place, ends[place], tested)? {
+            return Ok(false);
+        }
+    }
+    Ok(true)
+}
+
 /// What the rows that are left give, or that there is none.
 fn look_at_rows(
     store: &Store,
@@ -354,12 +387,17 @@ fn look_at_rows(
     ensures given { OnOk result (All
         (λ n. IsGiven (Table tuples.now.exprs tuples.now.values false) store.now n.target) found.new.items) }
     ensures seen { IfOk result (IsSeen (Table tuples.now.exprs tuples.now.values false) store.now) }
-    ensures rest { result ≡ Ok Look.Possible → IsAtRest (Table tuples.now.exprs tuples.now.values false) store.now }
+    ensures rest { result ≡ Ok Look.Possible → AreTrue store.now found.new.items
+        → IsAtRest (Table tuples.now.exprs tuples.now.values false) store.now }
 {
     collect(store, tuples, &mut room.rows)?;
     let live = room.rows.as_slice();
+    if live.is_empty() {
+        found.clear();
+        return Ok(Look::Impossible(NO_HINT));
+    }
     narrow_columns(store, &tuples.grid(), live, &mut room.gaps, found)?;
-    Ok(verdict(live))
+    Ok(Look::Possible)
 }
 
 /// What a table gives, or that it cannot hold.
@@ -375,13 +413,15 @@ pub(crate) fn look_among(
     ensures given { OnOk result (All
         (λ n. IsGiven (Table tuples.now.exprs tuples.now.values false) store.now n.target) found.new.items) }
     ensures seen { IfOk result (IsSeen (Table tuples.now.exprs tuples.now.values false) store.now) }
-    ensures rest { result ≡ Ok Look.Possible → IsAtRest (Table tuples.now.exprs tuples.now.values false) store.now }
+    ensures rest { result ≡ Ok Look.Possible → AreTrue store.now found.new.items
+        → IsAtRest (Table tuples.now.exprs tuples.now.values false) store.now }
 {
-    if let Some(row) = room.supports.find(store, tuples, numbering)?
-        && is_left(store, &tuples.grid(), row)
-    {
-        found.clear();
-        return Ok(Look::Possible);
+    if room.supports.find(store, tuples, numbering)? {
+        let ends = room.supports.ends();
+        if have_end_rows(store, &tuples.grid(), ends, &mut room.rows)? {
+            found.clear();
+            return Ok(Look::Possible);
+        }
     }
     look_at_rows(store, tuples, room, found)
 }

@@ -4,7 +4,7 @@
 //! A look compares each subject's domain with that of the last look and counts the rows of those values alone that
 //! went or came back, so nothing has to be undone. For each value a row that has it and was left is kept and tried
 //! first, and its other rows only where that one is gone: Lecoutre and Hemery, "A study of residual supports in arc
-//! consistency" (2007). Nothing is promised but that the calls are safe: a row that is found is tested where it counts.
+//! consistency" (2007). Nothing is promised but that the calls are safe: rows that are found are tested where they count.
 
 ghost use Rattle.std.specs.Prelude.{◌<◌, length, All};
 
@@ -31,9 +31,18 @@ impl Drop for Seen {
     }
 }
 
+/// A row that has the least value of a column's subject, and one that has the greatest.
+#[derive(Clone, Copy)]
+pub(crate) struct EndRows {
+    pub(crate) low: usize,
+    pub(crate) high: usize,
+}
+
 /// The values that subjects have, and the rows that are left.
 pub(crate) struct Supports {
     columns: Vec<Seen>,
+    /// The rows of each column's ends, where the last look found no value to lose.
+    ends: Vec<EndRows>,
     /// For each value by number, whether its subject has it.
     is_open: Vec<bool>,
     /// For each value by number, a row that has it and was left; no row before one is found.
@@ -49,6 +58,7 @@ impl Drop for Supports {
     fn drop(self) {
         let Supports {
             columns: _columns,
+            ends: _ends,
             is_open: _is_open,
             residues: _residues,
             gone: _gone,
@@ -96,6 +106,7 @@ impl Supports {
     pub(crate) fn new(alloc: Global, numbering: &Numbering) -> Result<Self, AllocError> {
         let mut supports = Supports {
             columns: Vec::new(alloc),
+            ends: Vec::new(alloc),
             is_open: Vec::new(alloc),
             residues: Vec::new(alloc),
             gone: Vec::new(alloc),
@@ -210,26 +221,42 @@ impl Supports {
         false
     }
 
+    /// The row that was found for a value; no row where there is none.
+    fn residue(&self, number: usize) -> usize {
+        match self.residues.get(number) {
+            Some(row) => *row,
+            None => usize::MAX,
+        }
+    }
+
+    /// The rows of each column's ends, where `find` has just said that no subject has a value to lose.
+    pub(crate) fn ends(&self) -> &[EndRows] {
+        self.ends.as_slice()
+    }
+
     /// Whether the rows that are left have each value of a column's subject, or where it has many more values than
-    /// there are such rows, its least and its greatest.
+    /// there are such rows, its least and its greatest. Keeps the rows of these two.
     fn is_tight(
         &mut self,
         column: usize,
         domain: &Domain,
         cells: &[Cell],
         numbering: &Numbering,
-    ) -> bool {
+    ) -> Result<bool, AllocError> {
         let open = match self.columns.get(column) {
             Some(seen) => seen.open,
-            None => return false,
+            None => return Ok(false),
         };
         let is_whole = is_worth(domain, self.live);
         if is_whole && open != domain.size() {
-            return false;
+            return Ok(false);
         }
         let low = domain.min();
         let high = domain.max();
-        let mut ends = 0u32;
+        let mut ends = EndRows {
+            low: usize::MAX,
+            high: usize::MAX,
+        };
         for number in numbering.first_in(column)..numbering.first_in(column.wrapping_add(1)) {
             if !is_set(self.is_open.as_slice(), number) {
                 continue;
@@ -237,49 +264,39 @@ impl Supports {
             let value = value_at(cells, numbering.first_cell(number));
             let is_end = value == low || value == high;
             if (is_end || is_whole) && !self.has_support(number, cells, numbering) {
-                return false;
+                return Ok(false);
             }
             if value == low {
-                ends |= 1;
+                ends.low = self.residue(number);
             }
             if value == high {
-                ends |= 2;
+                ends.high = self.residue(number);
             }
         }
-        ends == 3
+        self.ends.push(ends)?;
+        Ok(ends.low != usize::MAX && ends.high != usize::MAX)
     }
 
-    /// A row that is left, where the subjects have no value to lose.
+    /// Whether the subjects have no value to lose.
     pub(crate) fn find(
         &mut self,
         store: &Store,
         tuples: &TupleSet,
         numbering: &Numbering,
-    ) -> Result<Option<usize>, AllocError>
+    ) -> Result<bool, AllocError>
         requires fits { All (λ e. e < length store.now.first) tuples.now.exprs }
     {
         let cells = tuples.cells();
         let exprs = tuples.grid().exprs;
+        self.ends.clear();
         for (column, subject) in exprs.iter().enumerate() {
             self.renew(column, store.domain(*subject), cells, numbering)?;
         }
         for (column, subject) in exprs.iter().enumerate() {
-            if !self.is_tight(column, store.domain(*subject), cells, numbering) {
-                return Ok(None);
+            if !self.is_tight(column, store.domain(*subject), cells, numbering)? {
+                return Ok(false);
             }
         }
-        Ok(self.some_row(numbering))
-    }
-
-    /// The row that was found last for some value of the first column.
-    fn some_row(&self, numbering: &Numbering) -> Option<usize> {
-        for number in numbering.first_in(0)..numbering.first_in(1) {
-            if let Some(row) = self.residues.get(number)
-                && self.is_left(*row)
-            {
-                return Some(*row);
-            }
-        }
-        None
+        Ok(true)
     }
 }

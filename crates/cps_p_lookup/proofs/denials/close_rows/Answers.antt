@@ -32,7 +32,7 @@ loop-cell-preserved c =
     let new = c.close_row.new.facts.items in
     let closes = c.in_ok-close_row.ensures (ap Ok c.if-not-branch.false) in
     record {
-      grows = grows_trans s c.push_chosen.new.facts.items old new c.loop-cell.invariant.grows closes.grows;
+      grows = grows_trans s es c.push_chosen.new.facts.items old new c.loop-cell.invariant.grows closes.grows;
       closed = closed_more s es vs c.args.goal old new c.args.rows.now.cells.now c.loop-cell.cell-index no_cell c.row_at-values.result.now c.loop-cell-test.true c.row_at-values.ensures.same closes c.loop-cell.invariant.closed;
     }
 
@@ -43,5 +43,5 @@ returns c = λ e.
     let vs = c.args.rows.now.grid.values.now in
     let cells = c.args.rows.now.cells.now in
     let facts = c.loop-cell.facts.items in
-    closed_gives s es vs c.args.goal c.clear.new.self.items facts cells c.requires.some c.clear.ensures.items (grows_trans s c.clear.new.self.items c.push_chosen.new.facts.items facts c.in_ok-push_chosen.ensures c.loop-cell.invariant.grows) c.requires.sought
+    closed_gives s es vs c.args.goal c.clear.new.self.items facts cells c.requires.some c.clear.ensures.items (grows_trans s es c.clear.new.self.items c.push_chosen.new.facts.items facts c.in_ok-push_chosen.ensures c.loop-cell.invariant.grows) c.requires.sought
     (subst (λ (cs : List Cell). All (λ (cell : Cell). IsClosedRow es vs c.args.goal facts cell.row) cs) (take_all c.loop-cell.cell-index cells c.loop-cell-test.false) c.loop-cell.invariant.closed)

@@ -5,6 +5,6 @@ use Rattle.cps_p_lookup.proofs.denials.fix_row.Given as goal
 
 abbrev pub invariant-loop-k : goal.invariant-loop-k
 invariant-loop-k l = record {
-  grows : Grows l.past l.fn.facts.items l.facts.items;
+  grows : Grows l.past l.exprs l.fn.facts.items l.facts.items;
   sure : (j : ℕ) → j < l.k → IsSure (get_or l.exprs j 0) (get_or l.row j (pos 0)) l.goal l.facts.items;
 }

@@ -1,12 +1,7 @@
--- A row that is left is all that rest asks.
-use Rattle.cps_p_lookup.specs.Tabling.{IsLive}
-use Rattle.cps_p_lookup.proofs.Tables.{one_rest}
+-- Rows of each column's ends are all that rest asks.
+use Rattle.std.proofs.Common.{Ok, ap}
+use Rattle.cps_p_lookup.proofs.Tables.{ends_rest}
 use Rattle.cps_p_lookup.proofs.rows.look_among.Goals as goal
 
-pub returns-clause-rest : goal.returns-clause-rest
-returns-clause-rest c = λ e.
-    let s = c.args.store.now in
-    let es = c.args.tuples.now.exprs in
-    let vs = c.args.tuples.now.values in
-    let is : IsLive s es vs c.in-Some.row = rw (c.grid.ensures.exprs, c.grid.ensures.values) at (c.is_left.ensures c.if-is_left.true) in
-    one_rest s es vs c.in-Some.row is
+pub returns-then-branch-2-clause-rest : goal.returns-then-branch-2-clause-rest
+returns-then-branch-2-clause-rest c = λ _ _. ends_rest c.args.store.now c.args.tuples.now.exprs c.args.tuples.now.values c.requires.some (rw (c.grid.ensures.exprs, c.grid.ensures.values) at (c.in_ok-have_end_rows.ensures (ap Ok c.if-branch-2.true)))
