@@ -1,8 +1,8 @@
 -- Signs that leave no circuit.
-use Rattle.std.specs.Prelude.{All, Contains, slice_index, min}
-use Rattle.std.proofs.Common.{◌≡◌, ◌≢◌, inl, inr, ℕ, ◌+◌, ◌-◌, ◌<◌, ◌≤◌, ℤ, Bool, true, false, not, List, [], ◌∷◌, ◌++◌, length, get_or, refl, sym, ◌∙◌, ap, subst, arith}
+use Rattle.std.specs.Prelude.{All, Contains, count_by, slice_index, min}
+use Rattle.std.proofs.Common.{◌≡◌, ◌≢◌, inl, inr, ℕ, ◌+◌, ◌-◌, ◌<◌, ◌≤◌, ℤ, Bool, true, false, not, List, [], ◌∷◌, ◌++◌, map, length, get_or, refl, sym, ◌∙◌, ap, subst, arith}
 use Rattle.std.proofs.lemmas.List.Elements.{All-contains, Contains-append_left, Contains-push}
-use Rattle.std.proofs.lemmas.Bool.{cases_lt}
+use Rattle.std.proofs.lemmas.Bool.{cases_lt, cases_eq}
 use Rattle.cps_model.specs.declared.parts.Arc.{Arc}
 use Rattle.cps_model.specs.Circuits.{IsCircuit, Leads, here, along, leaves, enters, is_loop, moves}
 use Rattle.cps_p_circuit.specs.declared.clash.Sign.{Sign}
@@ -72,35 +72,46 @@ pair_in nodes from to used i j h = record {
       omega arith);
 }
 
+once : (n : ℕ) → ((n ≡ 1 → ⊥) → ⊥) → n ≡ 1
+once n h = elim (cases_eq n 1) [ inl e ↦ e | inr ne ↦ absurd (h ne) ]
+
 -- no arc is taken at a node
-pub none_out : (nodes : List ℤ) (from to : List ℕ) (used : List Sign) (k : ℕ) → IsNumbering nodes from to → IsDeserted from (least from to) k used → IsClash nodes from to used
-none_out nodes from to used k numbered h = record {
+pub node_out : (nodes : List ℤ) (from to : List ℕ) (v : ℕ) (taken : List Bool) → IsNumbering nodes from to → v < length nodes → IsRound nodes from to taken
+    → (k : ℕ) × (k < length from) × (k < length to) × (get_or taken k false ≡ true) × (slice_index from k ≡ v)
+node_out nodes from to v taken numbered l round =
+    let one = once (count_by (leaves (number nodes v)) (arcs_by nodes from to taken)) (λ other. numbered.listed v l (λ h. other (All-contains (λ node. count_by (leaves node) (arcs_by nodes from to taken) ≡ 1) (map (number nodes) from ++ map (number nodes) to) (number nodes v) round.one_out h))) in
+    let some = some_of (leaves (number nodes v)) nodes from to taken (omega arith) in
+    let j = some.1 in
+    let at = some.2 in
+    let same : number nodes (slice_index from j) ≡ number nodes v = ap (λ (x : Arc). x.tail) at.is ∙ eq_is some.0.tail (number nodes v) some.3 in
+    (j, at.tail_within, at.head_within, at.on, numbered.apart _ _ (numbered.tails j at.tail_within) l same)
+
+pub node_in : (nodes : List ℤ) (from to : List ℕ) (v : ℕ) (taken : List Bool) → IsNumbering nodes from to → v < length nodes → IsRound nodes from to taken
+    → (k : ℕ) × (k < length from) × (k < length to) × (get_or taken k false ≡ true) × (slice_index to k ≡ v)
+node_in nodes from to v taken numbered l round =
+    let one = once (count_by (enters (number nodes v)) (arcs_by nodes from to taken)) (λ other. numbered.listed v l (λ h. other (All-contains (λ node. count_by (enters node) (arcs_by nodes from to taken) ≡ 1) (map (number nodes) from ++ map (number nodes) to) (number nodes v) round.one_in h))) in
+    let some = some_of (enters (number nodes v)) nodes from to taken (omega arith) in
+    let j = some.1 in
+    let at = some.2 in
+    let same : number nodes (slice_index to j) ≡ number nodes v = ap (λ (x : Arc). x.head) at.is ∙ eq_is some.0.head (number nodes v) some.3 in
+    (j, at.tail_within, at.head_within, at.on, numbered.apart _ _ (numbered.heads j at.head_within) l same)
+
+pub none_out : (nodes : List ℤ) (from to : List ℕ) (used : List Sign) (v : ℕ) → IsNumbering nodes from to → v < length nodes → IsDeserted from (least from to) v used → IsClash nodes from to used
+none_out nodes from to used v numbered l h = record {
   none = λ taken signs round.
-      (let a = h.within in
-      let one = tail_once nodes from to (arcs_by nodes from to taken) k (omega arith) round in
-      let some = some_of (leaves (number nodes (slice_index from k))) nodes from to taken (omega arith) in
-      let j = some.1 in
-      let at = some.2 in
-      let p = at.tail_within in
-      let q = at.head_within in
-      let same : number nodes (slice_index from j) ≡ number nodes (slice_index from k) = ap (λ (x : Arc). x.tail) at.is ∙ eq_is some.0.tail (number nodes (slice_index from k)) some.3 in
-      let place = numbered.apart _ _ (numbered.tails j p) (numbered.tails k (omega arith)) same in
-      not_both _ at.on (met taken used (leaving j) signs (h.each j (omega arith) place)));
+      (let one = node_out nodes from to v taken numbered l round in
+      let p = one.1 in
+      let q = one.2 in
+      not_both _ one.3 (met taken used (leaving one.0) signs (h.each one.0 (omega arith) one.4)));
 }
 
-pub none_in : (nodes : List ℤ) (from to : List ℕ) (used : List Sign) (k : ℕ) → IsNumbering nodes from to → IsDeserted to (least from to) k used → IsClash nodes from to used
-none_in nodes from to used k numbered h = record {
+pub none_in : (nodes : List ℤ) (from to : List ℕ) (used : List Sign) (v : ℕ) → IsNumbering nodes from to → v < length nodes → IsDeserted to (least from to) v used → IsClash nodes from to used
+none_in nodes from to used v numbered l h = record {
   none = λ taken signs round.
-      (let a = h.within in
-      let one = head_once nodes from to (arcs_by nodes from to taken) k (omega arith) round in
-      let some = some_of (enters (number nodes (slice_index to k))) nodes from to taken (omega arith) in
-      let j = some.1 in
-      let at = some.2 in
-      let p = at.tail_within in
-      let q = at.head_within in
-      let same : number nodes (slice_index to j) ≡ number nodes (slice_index to k) = ap (λ (x : Arc). x.head) at.is ∙ eq_is some.0.head (number nodes (slice_index to k)) some.3 in
-      let place = numbered.apart _ _ (numbered.heads j q) (numbered.heads k (omega arith)) same in
-      not_both _ at.on (met taken used (leaving j) signs (h.each j (omega arith) place)));
+      (let one = node_in nodes from to v taken numbered l round in
+      let p = one.1 in
+      let q = one.2 in
+      not_both _ one.3 (met taken used (leaving one.0) signs (h.each one.0 (omega arith) one.4)));
 }
 
 -- a taken arc that is no loop is a move

@@ -7,3 +7,5 @@ pub mod Tasks
 pub mod Walks
 pub mod DistinctAnswers
 pub mod Literals
+pub mod Counting
+pub mod ArcsAtNodes

@@ -1,8 +1,8 @@
 -- Facts that show what a body gives.
-use Rattle.std.specs.Prelude.{All, IfSome, Option, Some, None, not}
+use Rattle.std.specs.Prelude.{All, Contains, IfSome, Option, Some, None, not}
 use Rattle.std.proofs.Common.{◌≡◌, ℕ, ◌+◌, ◌<◌, ℤ, Bool, true, false, List, [], ◌∷◌, ◌++◌, length, get_or, take, refl, sym, ◌∙◌, ap, subst, arith, length-append}
 use Rattle.std.proofs.lemmas.List.{get_or-map, get_or_append_left}
-use Rattle.std.proofs.lemmas.List.Elements.{All-contains, All-more, All-push, Contains-push}
+use Rattle.std.proofs.lemmas.List.Elements.{All-nil, All-contains, All-contains_itself, All-more, All-push, Contains-push}
 use Rattle.cps_literal.specs.declared.atom.Atom.{Atom}
 use Rattle.cps_literal.specs.Truth.{value_at, atom_holds, meets, Implies}
 use Rattle.cps_instance.specs.declared.task.Body.{Body}
@@ -10,6 +10,8 @@ use Rattle.cps_instance.specs.Tasks.{atom_subjects}
 use Rattle.cps_trail.specs.Trail.{Trail, IsTrueNow, IsAdmitted, IsWithin}
 use Rattle.cps_rule.specs.Rules.{IsFact, AreFacts, AllTrueAt, IsExplained, IsRefuted, IsGiven, IsImpossible, IsAtRest}
 use Rattle.cps_propagate.specs.Now.{AreOpen}
+use Rattle.cps_propagate.specs.Strength.{IsStrongBody}
+use Rattle.cps_propagate.proofs.Speaking.{speaks_none, speaks_push}
 use Rattle.cps_p_circuit.specs.declared.clash.Sign.{Sign}
 use Rattle.cps_p_circuit.specs.Graphs.{IsRound}
 use Rattle.cps_p_circuit.specs.Clashes.{IsSignMet, IsClash}
@@ -42,6 +44,7 @@ pub kept_more : (s : Trail) (literals : List Atom) (denied : Option Atom) (used 
     → MakeSignsTrue s literals denied (take i used) us → MakeSignsTrue s literals denied (take (i + 1) used) new
 kept_more s literals denied used i d us new u l at inside now e h = record {
   facts = rw e (All-push (IsFact s) us u h.facts (record { subject = inside; inside = at.inside; true_now = now }));
+  speaks = rw e (speaks_push (atom_subjects literals) us u h.speaks (subst (λ (j : ℕ). Contains (atom_subjects literals) j) (sym (at.subject u)) (subject_holds (Contains (atom_subjects literals)) literals (get_or used i d).arc u at.within (All-contains_itself (atom_subjects literals)))));
   gives = λ xs t o.
       (let all : AllTrueAt xs (us ++ u ∷ []) = subst (AllTrueAt xs) e t in
       All-more (IsSignMet (taken_at xs literals)) used i d l (h.gives xs (all_front (λ (v : Atom). atom_holds xs v ≡ true) us u all) o)
@@ -53,7 +56,16 @@ pub kept_denied : (s : Trail) (literals : List Atom) (denied : Option Atom) (use
     → MakeSignsTrue s literals denied (take i used) us → MakeSignsTrue s literals denied (take (i + 1) used) us
 kept_denied s literals denied used i d us u l at follows h = record {
   facts = h.facts;
+  speaks = h.speaks;
   gives = λ xs t o. All-more (IsSignMet (taken_at xs literals)) used i d l (h.gives xs t o) (at.gives xs (follows xs o));
+}
+
+-- no sign
+pub kept_none : (s : Trail) (literals : List Atom) (denied : Option Atom) (us : List Atom) → us ≡ [] → MakeSignsTrue s literals denied [] us
+kept_none s literals denied us e = record {
+  facts = rw e (All-nil (IsFact s));
+  speaks = rw e (speaks_none (atom_subjects literals));
+  gives = λ xs t o. All-nil (IsSignMet (taken_at xs literals));
 }
 
 -- an atom's subject is among those of the literals
@@ -67,12 +79,14 @@ atom_inside s literals p u d at h =
 pub shown : (s : Trail) (nodes : List ℤ) (from to : List ℕ) (literals : List Atom) (denied : Option Atom) (used : List Sign) (us : List Atom) → IsClash nodes from to used → MakeSignsTrue s literals denied used us → IsShown (body_by nodes from to literals) s denied us
 shown s nodes from to literals denied used us clash kept = record {
   facts = kept.facts;
+  speaks = kept.speaks;
   excludes = λ xs t o h. clash.none (taken_at xs literals) (kept.gives xs t o) (round_from_body xs nodes from to literals h);
 }
 
 pub explained : (b : Body) (s : Trail) (target u : Atom) (us : List Atom) → u.subject ≡ target.subject → ((x : ℤ) → meets u.op u.value x ≡ not (meets target.op target.value x)) → IsShown b s (Some u) us → IsExplained b s target us
 explained b s target u us e n h = record {
   facts = h.facts;
+  speaks = h.speaks;
   gives = λ xs w t body. by xs (atom_holds xs target) refl (λ f. h.excludes xs t (denied xs f) body);
 }
   where
@@ -86,7 +100,7 @@ explained b s target u us e n h = record {
     by xs false f other = absurd (other f)
 
 pub refuted : (b : Body) (s : Trail) (us : List Atom) → IsShown b s None us → IsRefuted b s us
-refuted b s us h = record { facts = h.facts; excludes = λ xs w t body. h.excludes xs t tt body }
+refuted b s us h = record { facts = h.facts; speaks = h.speaks; excludes = λ xs w t body. h.excludes xs t tt body }
 
 -- facts are true wherever the store leaves values
 pub facts_hold : (s : Trail) (us : List Atom) (xs : List ℤ) → AreFacts s us → IsAdmitted s.first s.entries xs → AllTrueAt xs us
@@ -108,11 +122,11 @@ open_at s xs literals h w k d l = w (get_or (atom_subjects literals) k d) (h k d
 pub not_round : (s : Trail) (nodes : List ℤ) (from to : List ℕ) (literals : List Atom) (taken : List Bool) → All (λ i. i < length s.first) (atom_subjects literals) → AreTaken s literals taken → (IsRound nodes from to taken → ⊥) → IsImpossible (body_by nodes from to literals) s
 not_round s nodes from to literals taken inside is other = record { at = λ xs w body. other (subst (IsRound nodes from to) (is.is xs (open_at s xs literals inside w)) (round_from_body xs nodes from to literals body)) }
 
-pub rest_round : (s : Trail) (nodes : List ℤ) (from to : List ℕ) (literals : List Atom) (taken : List Bool) → AreTaken s literals taken → IsRound nodes from to taken → IsAtRest (body_by nodes from to literals) s
-rest_round s nodes from to literals taken is h = record {
+pub rest_round : (s : Trail) (nodes : List ℤ) (from to : List ℕ) (literals : List Atom) (taken : List Bool) → IsStrongBody (body_by nodes from to literals) s → AreTaken s literals taken → IsRound nodes from to taken → IsAtRest (body_by nodes from to literals) s
+rest_round s nodes from to literals taken strong is h = record {
   decided = λ fixed xs o. body_from_round xs nodes from to literals (subst (IsRound nodes from to) (sym (is.is xs o)) h);
-  strong = tt;
+  strong = strong;
 }
 
-pub rest_open : (s : Trail) (nodes : List ℤ) (from to : List ℕ) (literals : List Atom) → IsOpenStill s literals → IsAtRest (body_by nodes from to literals) s
-rest_open s nodes from to literals h = record { decided = λ fixed xs o. absurd (h fixed); strong = tt }
+pub rest_open : (s : Trail) (nodes : List ℤ) (from to : List ℕ) (literals : List Atom) → IsStrongBody (body_by nodes from to literals) s → IsOpenStill s literals → IsAtRest (body_by nodes from to literals) s
+rest_open s nodes from to literals strong h = record { decided = λ fixed xs o. absurd (h fixed); strong = strong }

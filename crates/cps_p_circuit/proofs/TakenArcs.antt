@@ -131,8 +131,13 @@ all_left xs ys all ns e h k d l = h (get_or xs k d) (rw e (Contains-append_left 
 pub all_right : (xs ys all ns : List ℤ) → all ≡ xs ++ ys → ((n : ℤ) → Contains all n → Contains ns n) → All (Contains ns) ys
 all_right xs ys all ns e h k d l = h (get_or ys k d) (rw e (Contains-append_right xs ys (get_or ys k d) (Contains-get_or ys k d l)))
 
-pub numbering : (nodes : List ℤ) (from to : List ℕ) → IsRising nodes → All (λ v. v < length nodes) from → All (λ v. v < length nodes) to → IsNumbering nodes from to
-numbering nodes from to rising f t = record {
+pub all_listed : (nodes all xs ys : List ℤ) (from to : List ℕ) → all ≡ xs ++ ys → map (number nodes) from ≡ xs → map (number nodes) to ≡ ys → ((n : ℤ) → Contains nodes n → Contains all n) → (v : ℕ) → v < length nodes
+    → (Contains (map (number nodes) from ++ map (number nodes) to) (number nodes v) → ⊥) → ⊥
+all_listed nodes all xs ys from to e f t h v l none = none (rw (f, t) (subst (λ (ns : List ℤ). Contains ns (number nodes v)) e (h (number nodes v) (Contains-get_or nodes v (pos 0) l))))
+
+pub numbering : (nodes : List ℤ) (from to : List ℕ) → IsRising nodes → All (λ v. v < length nodes) from → All (λ v. v < length nodes) to
+    → ((v : ℕ) → v < length nodes → (Contains (map (number nodes) from ++ map (number nodes) to) (number nodes v) → ⊥) → ⊥) → IsNumbering nodes from to
+numbering nodes from to rising f t listed = record {
   apart = λ i j p q e. elim (cases_lt i j) [
     | inl less ↦ (let up = rising i j less q in absurd (omega (arith, ints)))
     | inr more ↦ elim (cases_eq i j) [
@@ -142,4 +147,5 @@ numbering nodes from to rising f t = record {
   ];
   tails = λ k l. f k 0 l;
   heads = λ k l. t k 0 l;
+  listed = listed;
 }

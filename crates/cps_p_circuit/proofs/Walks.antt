@@ -12,8 +12,8 @@ end_more ends old new node j e h = below_more (λ (m : ℕ). slice_index ends m 
 pub end_less : (ends : List ℕ) (used : List Sign) (node j : ℕ) → slice_index ends j ≢ node → ((m : ℕ) → m < j → slice_index ends m ≡ node → Contains used (leaving m)) → (m : ℕ) → m < j + 1 → slice_index ends m ≡ node → Contains used (leaving m)
 end_less ends used node j other h = below_more (λ (m : ℕ). slice_index ends m ≡ node → Contains used (leaving m)) j h (λ e. absurd (other e))
 
-pub deserted : (ends : List ℕ) (arcs k j : ℕ) (used : List Sign) → k < arcs → arcs ≤ j → ((m : ℕ) → m < j → slice_index ends m ≡ slice_index ends k → Contains used (leaving m)) → IsDeserted ends arcs k used
-deserted ends arcs k j used within past h = record { within = within; each = λ m l e. h m (omega arith) e }
+pub deserted : (ends : List ℕ) (arcs node j : ℕ) (used : List Sign) → arcs ≤ j → ((m : ℕ) → m < j → slice_index ends m ≡ node → Contains used (leaving m)) → IsDeserted ends arcs node used
+deserted ends arcs node j used past h = record { each = λ m l e. h m (omega arith) e }
 
 -- one arc more that is no loop at a node, and all of them
 pub stay_less : (from to : List ℕ) (used : List Sign) (node j : ℕ) → (slice_index from j ≡ node → slice_index to j ≡ node → ⊥) → ((m : ℕ) → m < j → slice_index from m ≡ node → slice_index to m ≡ node → Contains used (leaving m)) → (m : ℕ) → m < j + 1 → slice_index from m ≡ node → slice_index to m ≡ node → Contains used (leaving m)

@@ -34,10 +34,9 @@ pub record IsClashingPair (ends : List ℕ) (arcs i j : ℕ) (used : List Sign) 
   pub one : Contains used (taking i)
   pub other : Contains used (taking j)
 
--- no arc with the end of one is taken
-pub record IsDeserted (ends : List ℕ) (arcs k : ℕ) (used : List Sign) : Type 0 where
-  pub within : k < arcs
-  pub each : (j : ℕ) → j < arcs → slice_index ends j ≡ slice_index ends k → Contains used (leaving j)
+-- no arc with a node for its end is taken
+pub record IsDeserted (ends : List ℕ) (arcs node : ℕ) (used : List Sign) : Type 0 where
+  pub each : (j : ℕ) → j < arcs → slice_index ends j ≡ node → Contains used (leaving j)
 
 -- An arc's tail is surely on the circuit: the arc is taken and no loop, or no loop there is taken.
 pub record IsOnTour (from to : List ℕ) (arcs k : ℕ) (used : List Sign) : Type 0 where

@@ -1,3 +1,4 @@
 pub mod Graphs
 pub mod Clashes
 pub mod Showing
+pub mod Counts

@@ -5,9 +5,10 @@ use Rattle.cps_literal.specs.declared.atom.Atom.{Atom}
 use Rattle.cps_literal.specs.Truth.{atom_holds}
 use Rattle.cps_instance.specs.declared.task.Body.{Body}
 use Rattle.cps_instance.specs.declared.task.Body.TheVariants.{Circuit}
-use Rattle.cps_instance.specs.Tasks.{HoldsBody, atom_subjects}
+use Rattle.cps_instance.specs.Tasks.{HoldsBody, atom_subjects, subjects_of_body}
 use Rattle.cps_trail.specs.Trail.{Trail, IsInside}
 use Rattle.cps_propagate.specs.Now.{IsFixedNow, AreOpen}
+use Rattle.cps_propagate.specs.Reasons.{SpeaksOf}
 use Rattle.cps_rule.specs.Rules.{AreFacts, AllTrueAt}
 use Rattle.cps_p_circuit.specs.declared.clash.Sign.{Sign}
 use Rattle.cps_p_circuit.specs.declared.graph.Graph.{Graph}
@@ -32,16 +33,18 @@ pub record IsAtomOf (literals : List Atom) (p : Sign) (u : Atom) : Type 0 where
   pub inside : IsInside u.value
   pub gives : (xs : List ℤ) → atom_holds xs u ≡ true → IsSignMet (taken_at xs literals) p
 
--- facts, and an atom beside them, make the signs true
+-- facts about the literals, and an atom beside them, make the signs true
 pub record MakeSignsTrue (s : Trail) (literals : List Atom) (denied : Option Atom) (used : List Sign)
     (us : List Atom) : Type 0 where
   pub facts : AreFacts s us
+  pub speaks : SpeaksOf (atom_subjects literals) us
   pub gives : (xs : List ℤ) → AllTrueAt xs us → IfSome denied (λ u. atom_holds xs u ≡ true)
       → All (IsSignMet (taken_at xs literals)) used
 
--- a body cannot hold beside facts, and beside an atom
+-- a body cannot hold beside facts about its subjects, and beside an atom
 pub record IsShown (b : Body) (s : Trail) (denied : Option Atom) (us : List Atom) : Type 0 where
   pub facts : AreFacts s us
+  pub speaks : SpeaksOf (subjects_of_body b) us
   pub excludes : (xs : List ℤ) → AllTrueAt xs us → IfSome denied (λ u. atom_holds xs u ≡ true) → HoldsBody b xs → ⊥
 
 -- the literals are known, and those that are true are listed

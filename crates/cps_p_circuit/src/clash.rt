@@ -5,7 +5,7 @@
 //! outside are on the circuit (`cut`). The last serves subtours and reachability alike. What is proved is only that
 //! signs that pass a test leave no circuit, so the finder may be changed without a proof.
 
-ghost use Rattle.std.specs.Prelude.{◌≡◌, ◌≤◌, ◌<◌, min, length, Ok, IfOk, true};
+ghost use Rattle.std.specs.Prelude.{◌≡◌, ◌≤◌, ◌<◌, min, length, Ok, IfOk, OnOk, true};
 ghost use Rattle.cps_p_circuit.specs.Clashes.{IsClashOf, IsClashingPair, IsDeserted, IsOnTour, AreChosen, NoneLeadsOut, GrowsSigns};
 
 use crate::graph::Graph;
@@ -51,21 +51,17 @@ fn push_two(
     Ok(true)
 }
 
-/// No arc that has this one's end is taken.
+/// No arc that has a node for its end is taken.
 fn push_none(
     ends: &[usize],
     arcs: usize,
-    k: usize,
+    node: usize,
     used: &mut Vec<Sign>,
-) -> Result<bool, AllocError>
+) -> Result<(), AllocError>
     requires { arcs ≤ length ends.now }
-    ensures { result ≡ Ok true → IsDeserted ends.now arcs k used.new.items }
+    ensures { OnOk result (IsDeserted ends.now arcs node used.new.items) }
 {
-    if k >= arcs {
-        return Ok(false);
-    }
     used.clear();
-    let node = ends[k];
     for j in 0..arcs {
         if ends[j] != node {
             continue;
@@ -75,7 +71,7 @@ fn push_none(
             holds: false,
         })?;
     }
-    Ok(true)
+    Ok(())
 }
 
 impl Graph {
@@ -96,18 +92,26 @@ impl Graph {
         push_two(self.to.as_slice(), self.arcs(), pair, used)
     }
 
-    /// No arc is taken that leaves this one's tail.
-    pub fn none_out(&self, k: usize, used: &mut Vec<Sign>) -> Result<bool, AllocError>
+    /// No arc is taken that leaves a node.
+    pub fn none_out(&self, node: usize, used: &mut Vec<Sign>) -> Result<bool, AllocError>
         ensures { result ≡ Ok true → IsClashOf self.now used.new.items }
     {
-        push_none(self.from.as_slice(), self.arcs(), k, used)
+        if node >= self.nodes.len() {
+            return Ok(false);
+        }
+        push_none(self.from.as_slice(), self.arcs(), node, used)?;
+        Ok(true)
     }
 
-    /// No arc is taken that enters this one's head.
-    pub fn none_in(&self, k: usize, used: &mut Vec<Sign>) -> Result<bool, AllocError>
+    /// No arc is taken that enters a node.
+    pub fn none_in(&self, node: usize, used: &mut Vec<Sign>) -> Result<bool, AllocError>
         ensures { result ≡ Ok true → IsClashOf self.now used.new.items }
     {
-        push_none(self.to.as_slice(), self.arcs(), k, used)
+        if node >= self.nodes.len() {
+            return Ok(false);
+        }
+        push_none(self.to.as_slice(), self.arcs(), node, used)?;
+        Ok(true)
     }
 
     /// Adds what no loop at an arc's tail being taken says.

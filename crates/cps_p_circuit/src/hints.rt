@@ -1,7 +1,7 @@
 //! Hints: what a narrowing was found by, in two numbers. Nowhere else are claims numbers.
 //!
-//! The remainder of the second number by `CODES` is the claim's code. The rest of it and the first number are
-//! arcs or witnesses.
+//! The remainder of the second number by `CODES` is the claim's code. The rest of it and the first number are arcs,
+//! nodes or witnesses.
 
 ghost use Rattle.std.specs.Prelude.{pos, ◌≤ℤ◌, ◌^◌};
 
@@ -38,9 +38,9 @@ pub enum Claim {
     TwoOut(usize, usize),
     /// Two taken arcs enter one node.
     TwoIn(usize, usize),
-    /// No arc is taken that leaves this arc's tail.
+    /// No arc is taken that leaves this node.
     NoneOut(usize),
-    /// No arc is taken that enters this arc's head.
+    /// No arc is taken that enters this node.
     NoneIn(usize),
     /// Taken arcs come back to where they began, and another node is on the circuit too.
     Tour(Subtour),
@@ -50,7 +50,7 @@ pub enum Claim {
     Other,
 }
 
-/// Indices of arcs in hints are below this.
+/// Indices of arcs and of nodes in hints are below this.
 const MOST: usize = 1 << 40;
 
 /// There are as many codes.
@@ -121,12 +121,12 @@ pub fn hint_of(claim: Claim) -> Hint {
             a: packed(i),
             b: packed(j) * CODES + TWO_IN,
         },
-        Claim::NoneOut(k) => Hint {
-            a: packed(k),
+        Claim::NoneOut(node) => Hint {
+            a: packed(node),
             b: NONE_OUT,
         },
-        Claim::NoneIn(k) => Hint {
-            a: packed(k),
+        Claim::NoneIn(node) => Hint {
+            a: packed(node),
             b: NONE_IN,
         },
         Claim::Tour(subtour) => Hint {

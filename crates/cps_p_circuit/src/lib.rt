@@ -1,12 +1,12 @@
 //! The rule of circuits: each node has one taken arc in and one out, and the taken arcs that are no loops are one
 //! circuit.
 //!
-//! A search of which nothing is proved but that it is safe and ends proposes literals, each with a claim why arcs
-//! that differ from it are no circuit. The claim is tested: it becomes signs of arcs that leave no circuit (`clash`),
+//! What degrees give is proved whole (`degrees`): beside a taken arc the others at its ends are not taken, and the last
+//! open arc of a node is. Beyond them a search of which nothing is proved but that it is safe and ends proposes
+//! literals, each with a claim why arcs that differ from it are no circuit. The claim is tested: it becomes signs of arcs that leave no circuit (`clash`),
 //! and these become facts that were true (`shown`). A look, an explanation and a refutation go by the same test.
 //! Proposed are
 //!
-//! - what degrees give: beside a taken arc the others at its ends are not taken, and the last open arc of a node is;
 //! - that no chain of taken arcs closes while a node elsewhere is surely on the circuit;
 //! - what reachability gives: from a node that is surely on the circuit, arcs that may be taken lead to each other node
 //!   of the circuit, and back. A node that they do not lead to, or from, takes its loop, and where it cannot, that is a
@@ -23,6 +23,7 @@
 mod build;
 mod clash;
 mod decided;
+mod degrees;
 mod find;
 mod graph;
 mod hints;

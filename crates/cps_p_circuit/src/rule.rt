@@ -1,7 +1,7 @@
 //! The rule of circuits: degrees, chains and reachability, and the body itself once every literal is known.
 //!
-//! A look runs the finder and keeps those candidates whose claims are confirmed. Only where it keeps none does it ask
-//! what reachability gives: a look that narrows something is followed by another. An explanation finds the same claim by
+//! A look counts degrees, and then runs the finder and keeps those candidates whose claims are confirmed. Only where
+//! both give nothing does it ask what reachability gives: a look that narrows something is followed by another. An explanation finds the same claim by
 //! the hint and confirms it on the earlier domains. Both go through `show`: a claim becomes signs that clash (`clash`),
 //! and these become facts that were true. A candidate that is not confirmed is dropped, which costs strength and not
 //! truth. If all literals are known, a walk over the taken arcs decides.
@@ -13,7 +13,8 @@ ghost use Rattle.cps_instance.specs.Tasks.{atom_subjects};
 use crate::build::graph_of;
 use crate::clash::{Sign, Witness};
 use crate::decided::{is_round, read_taken};
-use crate::find::{Candidate, Finder};
+use crate::degrees::Degrees;
+use crate::find::{Candidate, Finder, Seen};
 use crate::graph::Graph;
 use crate::hints::{Claim, Parting, Subtour, Way, claim_of, hint_of};
 use crate::reach::{Links, Outset, closed_nodes};
@@ -34,6 +35,7 @@ pub struct Circuit {
     links: Links,
     literals: Vec<Atom>,
     taken: Vec<bool>,
+    degrees: Degrees,
     finder: Finder,
 }
 
@@ -46,6 +48,7 @@ impl Drop for Circuit {
             links: _links,
             literals: _literals,
             taken: _taken,
+            degrees: _degrees,
             finder: _finder,
         } = self;
     }
@@ -57,6 +60,7 @@ impl Circuit {
     ghost use Rattle.cps_instance.specs.declared.task.Body.TheVariants.{Circuit as CircuitOf};
     ghost use Rattle.cps_rule.specs.Rules.{IsExplained, IsGiven, IsImpossible};
     ghost use Rattle.cps_p_circuit.specs.Clashes.{IsClashOf};
+    ghost use Rattle.cps_p_circuit.specs.Counts.{AreTrue};
     ghost use Rattle.cps_p_circuit.specs.Showing.{IsShown, body_of, is_circuit_body};
 
     /// The rule of arcs between numbered nodes.
@@ -76,6 +80,7 @@ impl Circuit {
             links,
             literals: Vec::from_slice(alloc, literals)?,
             taken: Vec::new(alloc),
+            degrees: Degrees::new(alloc),
             finder: Finder::new(alloc),
         })
     }
@@ -171,8 +176,8 @@ impl Circuit {
         match claim_of(hint) {
             Claim::TwoOut(i, j) => self.graph.two_out((i, j), used),
             Claim::TwoIn(i, j) => self.graph.two_in((i, j), used),
-            Claim::NoneOut(k) => self.graph.none_out(k, used),
-            Claim::NoneIn(k) => self.graph.none_in(k, used),
+            Claim::NoneOut(node) => self.graph.none_out(node, used),
+            Claim::NoneIn(node) => self.graph.none_in(node, used),
             Claim::Tour(subtour) => self.tour(past, denied, subtour, used),
             Claim::Parted(parting) => self.parted(past, &parting, used),
             Claim::Other => Ok(false),
@@ -235,9 +240,10 @@ impl Circuit {
         found: &mut Vec<Narrowing>,
     ) -> Result<(), AllocError>
         requires { All (λ i. i < length store.now.first) (atom_subjects self.now.literals.items) }
-        ensures { OnOk result (
+        ensures given { OnOk result (
             All (λ n. IsGiven (body_of self.now.graph self.now.literals.items) store.now n.target) found.old.items
             → All (λ n. IsGiven (body_of self.now.graph self.now.literals.items) store.now n.target) found.new.items) }
+        ensures before { OnOk result (AreTrue store.now found.new.items → AreTrue store.now found.old.items) }
     {
         let Some(target) = atom_of(self.literals.as_slice(), candidate.sign) else {
             return Ok(());
@@ -257,13 +263,14 @@ impl Circuit {
         Ok(())
     }
 
-    /// Replaces `found` by what the candidates imply.
+    /// Adds what the candidates imply.
     fn gather(&self, store: &Store, found: &mut Vec<Narrowing>) -> Result<(), AllocError>
         requires { All (λ i. i < length store.now.first) (atom_subjects self.now.literals.items) }
-        ensures { OnOk result (
-            All (λ n. IsGiven (body_of self.now.graph self.now.literals.items) store.now n.target) found.new.items) }
+        ensures given { OnOk result (
+            All (λ n. IsGiven (body_of self.now.graph self.now.literals.items) store.now n.target) found.old.items
+            → All (λ n. IsGiven (body_of self.now.graph self.now.literals.items) store.now n.target) found.new.items) }
+        ensures before { OnOk result (AreTrue store.now found.new.items → AreTrue store.now found.old.items) }
     {
-        found.clear();
         let mut used = Vec::new(self.alloc);
         let mut facts = Vec::new(self.alloc);
         for k in 0..self.finder.candidates.len() {
@@ -293,8 +300,20 @@ impl Rule for Circuit {
 
     fn look(&mut self, store: &Store, found: &mut Vec<Narrowing>) -> Result<Look, AllocError> {
         found.clear();
-        self.finder
-            .find(&self.graph, &self.links, self.literals.as_slice(), store)?;
+        let literals = self.literals.as_slice();
+        self.degrees.count(&self.graph, literals, store)?;
+        match self.degrees.lost() {
+            Some(claim) => return Ok(Look::Impossible(hint_of(claim))),
+            None => {}
+        }
+        self.degrees.exclude(&self.graph, literals, found)?;
+        self.degrees.require(&self.graph, literals, found)?;
+        let seen = Seen {
+            graph: &self.graph,
+            links: &self.links,
+            degrees: &self.degrees,
+        };
+        self.finder.find(&seen)?;
         if let Some(hint) = self.finder.conflict {
             if self.fails(store, hint)? {
                 return Ok(Look::Impossible(hint));
@@ -311,7 +330,12 @@ impl Rule for Circuit {
         if !found.is_empty() {
             return Ok(Look::Possible);
         }
-        self.finder.part(&self.graph, &self.links)?;
+        let seen = Seen {
+            graph: &self.graph,
+            links: &self.links,
+            degrees: &self.degrees,
+        };
+        self.finder.part(&seen)?;
         if let Some(hint) = self.finder.conflict {
             if self.fails(store, hint)? {
                 return Ok(Look::Impossible(hint));

@@ -5,11 +5,14 @@ use Rattle.std.proofs.lemmas.List.{take_all}
 use Rattle.cps_p_circuit.specs.declared.clash.Sign.{Sign}
 use Rattle.cps_p_circuit.specs.Showing.{MakeSignsTrue}
 use Rattle.cps_p_circuit.proofs.DistinctAnswers.{no_not_yes}
-use Rattle.cps_p_circuit.proofs.ShownFacts.{kept_more, kept_denied, atom_inside}
+use Rattle.cps_p_circuit.proofs.ShownFacts.{kept_none, kept_more, kept_denied, atom_inside}
 use Rattle.cps_p_circuit.proofs.shown.keep.Goals as goal
 
 pub was_true-requires : goal.was_true-requires
 was_true-requires c = atom_inside c.args.past.now c.args.literals.now _ c.in-Some.atom (record { subject = 0; op = Le; value = pos 0 }) c.in-Some.ensures c.requires
+
+pub loop-sign-init : goal.loop-sign-init
+loop-sign-init c = kept_none c.args.past.now c.args.literals.now c.args.denied c.clear.new.self.items c.clear.ensures.items
 
 pub loop-sign-preserved-then-follows : goal.loop-sign-preserved-then-follows
 loop-sign-preserved-then-follows c = kept_denied _ _ _ c.args.used.now c.loop-sign.sign-index _ _ c.in-Some.atom (omega arith) c.in-Some.ensures (c.follows.ensures c.if-follows.true) c.loop-sign.invariant
