@@ -21,10 +21,11 @@ use Rattle.cps_p_span.specs.declared.pairs.Pair.{Pair}
 use Rattle.cps_p_span.specs.declared.seen.Seen.{Seen}
 use Rattle.cps_p_boxes.specs.declared.pairs.Direction.{Direction}
 use Rattle.cps_p_span.specs.Hulls.{Proposes}
-use Rattle.cps_p_span.specs.Spans.{start_at, end_at, is_present, IsBefore, AreSpans, IsSpanSeen, IsPair, IsSmallAtom, ClashesAt, AddsOrdered, no_seen}
-use Rattle.cps_p_boxes.specs.Boxes.{IsDirection, IsKnown, AreBoxes, ArePresent, AreDisjoint, KeepsApart, AddsGiven, LacksBox, IsLate, IsOpenOrder, Overlap, MayBeApart, IsSureBox, AreBoxesAllowed, AllowsBoxes, AreAllAllowed, MakesPresent, MakesBoxPresent, IsCount, pair_of_places}
-use Rattle.cps_propagate.specs.Strength.{MayBeOrdered, IsPresentBox, HasSeparateBoxes}
+use Rattle.cps_p_span.specs.Spans.{start_at, end_at, is_present, IsBefore, AreSpans, IsSpanSeen, IsPair, IsSmallAtom, ClashesAt, AddsOrdered, pair_of_places, no_seen}
+use Rattle.cps_p_boxes.specs.Boxes.{IsDirection, IsKnown, AreBoxes, ArePresent, AreDisjoint, KeepsApart, AddsGiven, LacksBox, IsLate, IsOpenOrder, Overlap, MayBeApart, IsSureBox, AreBoxesAllowed, AllowsBoxes, AreAllAllowed, MakesPresent, MakesBoxPresent, IsCount, AreAllSettled}
+use Rattle.cps_propagate.specs.Strength.{MayBeOrdered, IsPresentBox, HasSeparateBoxes, FollowAlong}
 use Rattle.cps_p_span.proofs.Timing.{zip_at}
+use Rattle.cps_p_span.proofs.Settling.{le_or_less}
 use Rattle.cps_p_span.proofs.Pairing.{all_hold, less_or, below_or_same, are_known, swapped_pair, start_most, end_least, surely, gives_proposed}
 use Rattle.cps_p_span.proofs.Ordering.{may_be_ordered, turned_order, sure_at}
 use Rattle.cps_p_span.proofs.Citing.{denies, literals_small}
@@ -226,6 +227,22 @@ boxes_in ps qs count pair n p = record {
   across = record { before = n.across pair.before p.before; after = n.across pair.after p.after; apart = p.apart };
 }
 
+-- spans of which none may precede the other overlap, as far as their ends tell
+must_overlap : (s : Trail) (v : Direction) → IsDirection s v → (j i : ℕ) (d : Span) → j < length v.spans → i < length v.spans → (MayBeOrdered s (get_or v.spans i d) (get_or v.spans j d) → ⊥) → Overlap v.seen.items (pair_of_places j i)
+must_overlap s v is j i d l m never = record {
+  forth = elim (le_or_less (get_or v.seen.items j no_seen).times.end_low (get_or v.seen.items i no_seen).times.start_high) [
+    | inl k ↦ absurd (never (may_be_ordered s v.spans v.seen.items is.seen i j d m l (inr k)))
+    | inr less ↦ less
+  ];
+  back = elim (le_or_less (get_or v.seen.items i no_seen).times.end_low (get_or v.seen.items j no_seen).times.start_high) [
+    | inl k ↦ absurd (never (may_be_ordered s v.spans v.seen.items is.seen i j d m l (inl k)))
+    | inr less ↦ less
+  ];
+}
+
+pub turned_sure : {vs ws : List Seen} {k : ℕ} → IsSureBox vs ws k → IsSureBox ws vs k
+turned_sure h = record { along = h.across; across = h.along }
+
 -- where all is fixed
 module _ (s : Trail) (ps : List Span) (vs : List Seen) (seen : AllZip (IsSpanSeen s) ps vs) (fixed : All (IsFixedNow s) (span_subjects ps)) (xs : List ℤ) (opened : AreOpen s xs (span_subjects ps)) where
   apart_fixed : (i j : ℕ) (d : Span) → i < length ps → j < length ps → MayBeApart vs (pair_of_places j i) → Either xs (get_or ps i d) (get_or ps j d)
@@ -282,8 +299,31 @@ module _ (s : Trail) (v w : Direction) (is : IsDirection s v) (has : IsDirection
     ];
   }
 
-  pub boxes_at_rest : IsAtRest (NoOverlap2d v.spans w.spans) s
-  boxes_at_rest = record { decided = λ fixed xs opened. no_overlap_2d xs v.spans w.spans (all_disjoint fixed xs opened); strong = separate }
+  turned_box : (k : ℕ) (d : Span) → IsPresentBox s w.spans v.spans k d → IsPresentBox s v.spans w.spans k d
+  turned_box k d h = record { along = h.across; across = h.along }
+
+  module _ (settled : AreAllSettled v w count s) where
+    follow_along : FollowAlong s v.spans w.spans
+    follow_along = record {
+      follow = λ i j d differ a b no. elim (less_or i j differ) [
+        | inl l ↦ ((settled j (n.all j b.along.within b.across.within) i l).along (must_overlap s w has j i d b.across.within a.across.within no) (sure_of j d b) (sure_of i d a) (sure_of j d b).along (sure_of i d a).along d).1
+        | inr l ↦ ((settled i (n.all i a.along.within a.across.within) j l).along (must_overlap s w has i j d a.across.within b.across.within (λ o. no (turned_order s (get_or w.spans j d) (get_or w.spans i d) o))) (sure_of i d a) (sure_of j d b) (sure_of i d a).along (sure_of j d b).along d).0
+      ];
+    }
+
+    follow_across : FollowAlong s w.spans v.spans
+    follow_across = record {
+      follow = λ i j d differ a' b' no.
+          let a = turned_box i d a' in
+          let b = turned_box j d b' in
+          elim (less_or i j differ) [
+            | inl l ↦ ((settled j (n.all j b.along.within b.across.within) i l).across (must_overlap s v is j i d b.along.within a.along.within no) (turned_sure (sure_of j d b)) (turned_sure (sure_of i d a)) (sure_of j d b).across (sure_of i d a).across d).1
+            | inr l ↦ ((settled i (n.all i a.along.within a.across.within) j l).across (must_overlap s v is i j d a.along.within b.along.within (λ o. no (turned_order s (get_or v.spans j d) (get_or v.spans i d) o))) (turned_sure (sure_of i d a)) (turned_sure (sure_of j d b)) (sure_of i d a).across (sure_of j d b).across d).0
+          ];
+    }
+
+    pub boxes_at_rest : IsAtRest (NoOverlap2d v.spans w.spans) s
+    boxes_at_rest = record { decided = λ fixed xs opened. no_overlap_2d xs v.spans w.spans (all_disjoint fixed xs opened); strong = record { separate = separate; in_x = follow_along; in_y = follow_across } }
 
 -- what fits are two lists of spans
 pub are_along : (first : Domains) (ps qs : List Span) → IsFittingRule first (NoOverlap2d ps qs) → AreSpans first ps

@@ -12,8 +12,8 @@ use Rattle.cps_rule.specs.Rules.{IsImpossible}
 use Rattle.cps_p_span.specs.declared.pairs.Pair.{Pair}
 use Rattle.cps_p_span.specs.declared.seen.Seen.{Seen}
 use Rattle.cps_p_boxes.specs.declared.pairs.Direction.{Direction}
-use Rattle.cps_p_span.specs.Citing.{GivesMore}
-use Rattle.cps_p_span.specs.Spans.{is_present, IsBefore, AreKnown, AreSeen, IsPair, IsSmallAtom, no_seen}
+use Rattle.cps_p_span.specs.Citing.{AreTrueNow, GivesMore}
+use Rattle.cps_p_span.specs.Spans.{is_present, IsBefore, AreKnown, AreSeen, IsPair, IsSmallAtom, IsPairSettled, pair_of_places, no_seen}
 
 -- whether a body asks that boxes do not overlap
 abbrev pub is_no_overlap_2d : Body → Bool
@@ -110,9 +110,6 @@ abbrev pub AreBoxesAllowed : List Seen → List Seen → Pair → Type 0
 AreBoxesAllowed vs ws pair = IsSureBox vs ws pair.before → IsSureBox vs ws pair.after
     → MayBeApart vs pair ⊎ MayBeApart ws pair
 
-abbrev pub pair_of_places : ℕ → ℕ → Pair
-pair_of_places j i = record { before = j; after = i }
-
 -- one box with each of the first n
 abbrev pub AllowsBoxes : List Seen → List Seen → ℕ → ℕ → Type 0
 AllowsBoxes vs ws j n = (i : ℕ) → i < n → AreBoxesAllowed vs ws (pair_of_places j i)
@@ -146,3 +143,26 @@ pub record IsCount (n m count : ℕ) : Type 0 where
   pub along : (k : ℕ) → k < count → k < n
   pub across : (k : ℕ) → k < count → k < m
   pub all : (k : ℕ) → k < n → k < m → k < count
+
+-- in each store in which two directions are as they were seen: where each target of a newer list is true, so is each of
+-- an older one, and something holds
+abbrev pub Settles : Direction → Direction → (Trail → Type 0) → List Narrowing → List Narrowing → Type 0
+Settles v w P old new = (s : Trail) → IsDirection s v → IsDirection s w → AreTrueNow s new → AreTrueNow s old × P s
+
+-- of two boxes that are surely present, each comes after the other in a direction where it must
+abbrev pub IsSettledAlong : Direction → Direction → Pair → Trail → Type 0
+IsSettledAlong v w pair s = IsSureBox v.seen.items w.seen.items pair.before
+    → IsSureBox v.seen.items w.seen.items pair.after → IsPairSettled s v.spans v.seen.items pair
+
+-- so in each direction across which they overlap
+pub record AreBoxesSettled (v w : Direction) (pair : Pair) (s : Trail) : Type 0 where
+  pub along : Overlap w.seen.items pair → IsSettledAlong v w pair s
+  pub across : Overlap v.seen.items pair → IsSettledAlong w v pair s
+
+-- so one box and each of the first n
+abbrev pub AreFirstSettled : Direction → Direction → ℕ → ℕ → Trail → Type 0
+AreFirstSettled v w j n s = (i : ℕ) → i < n → AreBoxesSettled v w (pair_of_places j i) s
+
+-- so each two of the first n
+abbrev pub AreAllSettled : Direction → Direction → ℕ → Trail → Type 0
+AreAllSettled v w n s = (j : ℕ) → j < n → AreFirstSettled v w j j s

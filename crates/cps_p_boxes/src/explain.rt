@@ -2,9 +2,10 @@
 //!
 //! That one box comes before another in a direction needs the facts that they are present, that neither span can come
 //! first across it, and that the order cannot be the other way round; and then the bound that is passed on.
-ghost use Rattle.std.specs.Prelude.{[], ◌≡◌, true};
+ghost use Rattle.std.specs.Prelude.{◌++◌, [], ◌≡◌, true};
 ghost use Rattle.cps_literal.specs.Truth.{atom_holds};
 ghost use Rattle.cps_instance.specs.declared.task.Span.{Span as SpanOf};
+ghost use Rattle.cps_instance.specs.Tasks.{span_subjects};
 ghost use Rattle.cps_p_span.specs.Citing.{Cites};
 ghost use Rattle.cps_p_span.specs.Spans.{AreSpans, ClashesAt};
 ghost use Rattle.cps_p_boxes.specs.Boxes.{AreBoxes, ArePresent, AreDisjoint, OrdersBoxes};
@@ -36,7 +37,8 @@ fn cite_boxes(
     requires along { AreSpans past.now.first along.now }
     requires across { AreSpans past.now.first across.now }
     requires pair { AreBoxes along.now across.now pair }
-    ensures { result ≡ Ok true → Cites past.now facts.old.items facts.new.items
+    ensures { result ≡ Ok true → Cites past.now (span_subjects along.now ++ span_subjects across.now)
+        facts.old.items facts.new.items
         (λ xs. (d : SpanOf) → ArePresent xs along.now pair d × ArePresent xs across.now pair d) }
 {
     if !cite_present(past, &along[pair.before], &along[pair.after], facts)? {
@@ -56,7 +58,8 @@ fn cite_first(
     requires along { AreSpans past.now.first along.now }
     requires across { AreSpans past.now.first across.now }
     requires pair { AreBoxes along.now across.now pair }
-    ensures { result ≡ Ok true → Cites past.now facts.old.items facts.new.items
+    ensures { result ≡ Ok true → Cites past.now (span_subjects along.now ++ span_subjects across.now)
+        facts.old.items facts.new.items
         (λ xs. OrdersBoxes xs along.now across.now pair) }
 {
     if !cite_boxes(past, along, across, pair, facts)? {
@@ -79,7 +82,8 @@ fn explain_start(
     requires along { AreSpans past.now.first along.now }
     requires across { AreSpans past.now.first across.now }
     requires pair { AreBoxes along.now across.now claim.pair }
-    ensures { result ≡ Ok true → Cites past.now facts.old.items facts.new.items
+    ensures { result ≡ Ok true → Cites past.now (span_subjects along.now ++ span_subjects across.now)
+        facts.old.items facts.new.items
         (λ xs. AreDisjoint xs along.now across.now → atom_holds xs claim.target ≡ true) }
 {
     let pair = claim.pair;
@@ -109,7 +113,8 @@ fn explain_end(
     requires along { AreSpans past.now.first along.now }
     requires across { AreSpans past.now.first across.now }
     requires pair { AreBoxes along.now across.now claim.pair }
-    ensures { result ≡ Ok true → Cites past.now facts.old.items facts.new.items
+    ensures { result ≡ Ok true → Cites past.now (span_subjects along.now ++ span_subjects across.now)
+        facts.old.items facts.new.items
         (λ xs. AreDisjoint xs along.now across.now → atom_holds xs claim.target ≡ true) }
 {
     let pair = claim.pair;
@@ -139,7 +144,7 @@ fn explain_along(
     requires along { AreSpans past.now.first along.now }
     requires across { AreSpans past.now.first across.now }
     requires pair { AreBoxes along.now across.now claim.pair }
-    ensures { result ≡ Ok true → Cites past.now [] facts.new.items
+    ensures { result ≡ Ok true → Cites past.now (span_subjects along.now ++ span_subjects across.now) [] facts.new.items
         (λ xs. AreDisjoint xs along.now across.now → atom_holds xs claim.target ≡ true) }
 {
     facts.clear();
@@ -161,7 +166,8 @@ fn cite_overlap(
     requires x { AreSpans past.now.first x.now }
     requires y { AreSpans past.now.first y.now }
     requires pair { AreBoxes x.now y.now pair }
-    ensures { result ≡ Ok true → Cites past.now facts.old.items facts.new.items
+    ensures { result ≡ Ok true → Cites past.now (span_subjects x.now ++ span_subjects y.now)
+        facts.old.items facts.new.items
         (λ xs. ClashesAt xs x.now pair × ClashesAt xs y.now pair) }
 {
     if !cite_clash(past, x, pair, facts)? {
@@ -181,7 +187,8 @@ fn explain_absence(
     requires x { AreSpans past.now.first x.now }
     requires y { AreSpans past.now.first y.now }
     requires pair { AreBoxes x.now y.now claim.pair }
-    ensures { result ≡ Ok true → Cites past.now facts.old.items facts.new.items
+    ensures { result ≡ Ok true → Cites past.now (span_subjects x.now ++ span_subjects y.now)
+        facts.old.items facts.new.items
         (λ xs. AreDisjoint xs x.now y.now → atom_holds xs claim.target ≡ true) }
 {
     let pair = claim.pair;
@@ -218,7 +225,7 @@ pub(crate) fn explain_boxes(
     requires x { AreSpans past.now.first x.now }
     requires y { AreSpans past.now.first y.now }
     requires pair { AreBoxes x.now y.now claim.pair }
-    ensures { result ≡ Ok true → Cites past.now [] facts.new.items
+    ensures { result ≡ Ok true → Cites past.now (span_subjects x.now ++ span_subjects y.now) [] facts.new.items
         (λ xs. AreDisjoint xs x.now y.now → atom_holds xs claim.target ≡ true) }
 {
     if explain_along(past, x, y, claim, facts)? {
@@ -242,7 +249,8 @@ pub(crate) fn refute_boxes(
     requires x { AreSpans past.now.first x.now }
     requires y { AreSpans past.now.first y.now }
     requires pair { AreBoxes x.now y.now pair }
-    ensures { result ≡ Ok true → Cites past.now facts.old.items facts.new.items (λ xs. AreDisjoint xs x.now y.now → ⊥) }
+    ensures { result ≡ Ok true → Cites past.now (span_subjects x.now ++ span_subjects y.now)
+        facts.old.items facts.new.items (λ xs. AreDisjoint xs x.now y.now → ⊥) }
 {
     if !cite_boxes(past, x, y, pair, facts)? {
         return Ok(false);

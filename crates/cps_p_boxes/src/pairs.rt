@@ -5,8 +5,9 @@
 //! absent, or the body cannot hold. Each step is written for a direction `along` which boxes are ordered and one
 //! `across` it, and serves both ways.
 ghost use Rattle.std.specs.Prelude.{◌≡◌, ◌<◌, length, slice_index_or, true, false, OnOk, IfOk, IfSome, IsTrue, ◌↔◌};
+ghost use Rattle.cps_p_span.specs.Citing.{KeepsTargets};
 ghost use Rattle.cps_p_span.specs.Spans.{IsPair, IsSmallAtom, no_seen};
-ghost use Rattle.cps_p_boxes.specs.Boxes.{IsKnown, AreBoxes, AddsGiven, LeavesNoBody, IsBoxAbsent, IsLate, IsOpenOrder, Overlap, MayBeApart, IsSureBox, AreBoxesAllowed, AllowsBoxes, AreAllAllowed, IsLastAtom, IsLastOfBox, IsCount};
+ghost use Rattle.cps_p_boxes.specs.Boxes.{IsKnown, AreBoxes, AddsGiven, LeavesNoBody, IsBoxAbsent, IsLate, IsOpenOrder, Overlap, MayBeApart, IsSureBox, AreBoxesAllowed, AllowsBoxes, AreAllAllowed, IsLastAtom, IsLastOfBox, IsCount, Settles, IsSettledAlong, AreBoxesSettled, AreFirstSettled, AreAllSettled};
 
 use cps_instance::Span;
 use cps_literal::Atom;
@@ -34,7 +35,7 @@ impl Drop for Direction {
 
 impl Direction {
     ghost use Rattle.std.specs.Prelude.{◌≡◌, length, OnOk};
-    ghost use Rattle.cps_p_span.specs.Spans.{AreSpans, AddsOrdered, IsPair};
+    ghost use Rattle.cps_p_span.specs.Spans.{AreSpans, AddsOrdered, SettlesOrder, IsPair};
     ghost use Rattle.cps_p_boxes.specs.Boxes.{IsDirection, IsKnown};
 
     /// Looks at what a store leaves to the spans.
@@ -50,7 +51,10 @@ impl Direction {
     fn follow(&self, pair: Pair, found: &mut Vec<Narrowing>) -> Result<(), AllocError>
         requires known { IsKnown self.now }
         requires pair { IsPair (length self.now.spans) pair }
-        ensures { OnOk result (AddsOrdered self.now.spans self.now.seen.items pair found.old.items found.new.items) }
+        ensures given { OnOk result (AddsOrdered self.now.spans self.now.seen.items pair
+            found.old.items found.new.items) }
+        ensures rest { OnOk result (SettlesOrder self.now.spans self.now.seen.items pair
+            found.old.items found.new.items) }
     {
         follow(self.spans.as_slice(), self.seen.as_slice(), pair, found)
     }
@@ -126,7 +130,10 @@ fn order(
     requires across { IsKnown across.now }
     requires pair { AreBoxes along.now.spans across.now.spans pair }
     requires overlap { Overlap across.now.seen.items pair }
-    ensures { OnOk result (AddsGiven along.now across.now found.old.items found.new.items) }
+    requires apart { MayBeApart along.now.seen.items pair }
+    ensures given { OnOk result (AddsGiven along.now across.now found.old.items found.new.items) }
+    ensures rest { OnOk result (Settles along.now across.now (IsSettledAlong along.now across.now pair)
+        found.old.items found.new.items) }
 {
     let before = is_sure(along, across, pair.before);
     let after = is_sure(along, across, pair.after);
@@ -206,7 +213,8 @@ fn exclude(
     requires in_x { pair.before < length x.now.spans }
     requires in_y { pair.before < length y.now.spans }
     requires absent { IsBoxAbsent x.now y.now pair.before }
-    ensures { OnOk result (AddsGiven x.now y.now found.old.items found.new.items) }
+    ensures given { OnOk result (AddsGiven x.now y.now found.old.items found.new.items) }
+    ensures kept { OnOk result (KeepsTargets found.old.items found.new.items) }
 {
     if let Some(atom) = last_of_box(x, y, pair.before) {
         found.push(Narrowing {
@@ -232,6 +240,7 @@ fn clash(
     ensures given { OnOk result (AddsGiven x.now y.now found.old.items found.new.items) }
     ensures impossible { result ≡ Ok true → LeavesNoBody x.now y.now }
     ensures allowed { result ≡ Ok false → AreBoxesAllowed x.now.seen.items y.now.seen.items pair }
+    ensures kept { OnOk result (KeepsTargets found.old.items found.new.items) }
 {
     let before = is_sure(x, y, pair.before);
     let after = is_sure(x, y, pair.after);
@@ -259,6 +268,8 @@ fn meet(
     ensures given { OnOk result (AddsGiven x.now y.now found.old.items found.new.items) }
     ensures impossible { result ≡ Ok true → LeavesNoBody x.now y.now }
     ensures allowed { result ≡ Ok false → AreBoxesAllowed x.now.seen.items y.now.seen.items pair }
+    ensures rest { result ≡ Ok false → Settles x.now y.now (AreBoxesSettled x.now y.now pair)
+        found.old.items found.new.items }
 {
     let in_x = overlap(x, pair);
     let in_y = overlap(y, pair);
@@ -287,6 +298,8 @@ fn meet_below(
     ensures given { OnOk result (AddsGiven x.now y.now found.old.items found.new.items) }
     ensures impossible { IfOk result (λ answer. IfSome answer (λ pair. LeavesNoBody x.now y.now)) }
     ensures allowed { result ≡ Ok None → AllowsBoxes x.now.seen.items y.now.seen.items place place }
+    ensures rest { result ≡ Ok None → Settles x.now y.now (AreFirstSettled x.now y.now place place)
+        found.old.items found.new.items }
 {
     for other in 0..place {
         let pair = Pair {
@@ -313,6 +326,8 @@ pub(crate) fn meet_all(
     ensures given { OnOk result (AddsGiven x.now y.now found.old.items found.new.items) }
     ensures impossible { IfOk result (λ answer. IfSome answer (λ pair. LeavesNoBody x.now y.now)) }
     ensures allowed { result ≡ Ok None → AreAllAllowed x.now.seen.items y.now.seen.items count }
+    ensures rest { result ≡ Ok None → Settles x.now y.now (AreAllSettled x.now y.now count)
+        found.old.items found.new.items }
 {
     for place in 0..count {
         if let Some(pair) = meet_below(x, y, place, found)? {

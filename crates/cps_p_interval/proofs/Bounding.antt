@@ -1,8 +1,8 @@
 -- What offers and an interval's bounds give.
-use Rattle.std.proofs.Common.{◌≡◌, ◌<◌, ◌≤ℤ◌, ◌<ℤ◌, ◌+ℤ◌, ◌⊎◌, inl, inr, ℕ, ℤ, pos, true, List, [], length, sym, subst, arith}
+use Rattle.std.proofs.Common.{◌≡◌, ◌<◌, ◌∷◌, ◌≤ℤ◌, ◌<ℤ◌, ◌+ℤ◌, ◌⊎◌, inl, inr, ℕ, ℤ, pos, true, List, [], length, sym, ap, subst, arith}
 use Rattle.std.specs.List.{All}
-use Rattle.std.proofs.lemmas.Int.{ints}
-use Rattle.std.proofs.lemmas.List.Elements.{All-push, All-nil}
+use Rattle.std.proofs.lemmas.Int.{ints, clamps}
+use Rattle.std.proofs.lemmas.List.Elements.{All-push, All-nil, All-head}
 use Rattle.cps_domain.proofs.Tests.{le_true, true_le}
 use Rattle.cps_literal.specs.declared.atom.Atom.{Atom}
 use Rattle.cps_literal.specs.declared.atom.Op.{Op}
@@ -11,24 +11,76 @@ use Rattle.std.specs.Prelude.{int_le}
 use Rattle.cps_literal.specs.Truth.{value_at, atom_holds, meets}
 use Rattle.cps_instance.specs.declared.task.Body.{Body}
 use Rattle.cps_instance.specs.Terms.{Domains}
-use Rattle.cps_trail.specs.Trail.{Trail, IsAdmitted}
+use Rattle.cps_instance.proofs.Agreeing.{All-append_left, All-append_right}
+use Rattle.cps_trail.specs.Trail.{Trail, IsAdmitted, IsInside, IsTrueNow}
 use Rattle.cps_rule.specs.declared.rule.Narrowing.{Narrowing}
-use Rattle.cps_propagate.specs.Strength.{MayBeInterval}
+use Rattle.cps_propagate.specs.Strength.{MayBeInterval, IsStrongInterval}
 use Rattle.cps_rule.specs.Rules.{IsGiven, IsImpossible, IsAtRest, IsFittingRule}
 use Rattle.cps_p_interval.specs.declared.interval.Places.{Places}
 use Rattle.cps_p_interval.specs.declared.interval.Hulls.{Hulls}
-use Rattle.cps_p_span.specs.Citing.{GivesMore}
-use Rattle.cps_p_span.specs.Hulls.{OffersAtom}
-use Rattle.cps_p_interval.specs.Intervals.{body_of, ArePlaces, AreHullsInside, AreInterval, AreHullsMeasured, FitsInterval}
+use Rattle.cps_p_span.specs.declared.hull.Hull.{Hull}
+use Rattle.cps_p_span.specs.Citing.{AreTrueNow, GivesMore}
+use Rattle.cps_p_span.specs.Hulls.{IsHullNow, IsTrueWithin, OffersAtom}
+use Rattle.cps_p_span.proofs.Settling.{le_or_less}
+use Rattle.cps_p_interval.specs.Intervals.{body_of, IsAboutPlace, ArePlaces, AreHullsInside, AreInterval, AreHullsMeasured, FitsInterval, AreAllWithin, KeepsWithin, least_size, most_size, least_end, most_end, least_start, most_start}
 
-pub gives_offered : (body : Body) (s : Trail) (t : Atom) (old new : List Narrowing) → IsGiven body s t → OffersAtom t old new → GivesMore body s old new
-gives_offered body s t old new g (inl e) h = subst (λ (ns : List Narrowing). All (λ n. IsGiven body s n.target) ns) (sym e) h
-gives_offered body s t old new g (inr (hint, e)) h =
+pub gives_offered : (body : Body) (s : Trail) (hull : Hull) (t : Atom) (old new : List Narrowing) → IsGiven body s t → OffersAtom hull t old new → GivesMore body s old new
+gives_offered body s hull t old new g (inl e) h = subst (λ (ns : List Narrowing). All (λ n. IsGiven body s n.target) ns) (sym e.0) h
+gives_offered body s hull t old new g (inr (hint, e)) h =
     subst (λ (ns : List Narrowing). All (λ n. IsGiven body s n.target) ns) (sym e) (All-push (λ (n : Narrowing). IsGiven body s n.target) old (record { target = t; hint = hint }) h g)
+
+-- a bound that was offered is true where all targets are
+offered : (s : Trail) (i : ℕ) (hull : Hull) (t : Atom) (op : Op) (v : ℤ) (old new : List Narrowing) → t ≡ record { subject = i; op = op; value = v } → IsHullNow s i hull → OffersAtom hull t old new → AreTrueNow s new
+    → AreTrueNow s old × (IsInside v → (meets op v hull.low ≡ true) × (meets op v hull.high ≡ true))
+offered s i hull t op v old new e m (inl k) h =
+    let span = m.least hull.high m.high in (
+      subst (λ (ns : List Narrowing). AreTrueNow s ns) k.0 h,
+      λ inside.
+          let within = subst (λ (u : Atom). IsTrueWithin hull u) e (k.1 (subst (λ (u : Atom). IsInside u.value) (sym e) inside)) in
+          (within hull.low (omega (arith, ints)) span, within hull.high span (omega (arith, ints))),
+    )
+offered s i hull t op v old new e m (inr (hint, k)) h =
+    let P : Narrowing → Type 0 = λ n. IsTrueNow s n.target in
+    let n : Narrowing = record { target = t; hint = hint } in
+    let all = subst (λ (ns : List Narrowing). AreTrueNow s ns) k h in
+    let now = subst (λ (u : Atom). IsTrueNow s u) e (All-head P n [] (All-append_right P old (n ∷ []) all)) in
+    (All-append_left P old (n ∷ []) all, λ inside. (now hull.low m.low, now hull.high m.high))
+
+-- two bounds that were offered
+pub keeps_within : (i : ℕ) (hull : Hull) (t u : Atom) (v w least most : ℤ) (old mid new : List Narrowing) → t ≡ record { subject = i; op = Ge; value = v } → v ≡ least → u ≡ record { subject = i; op = Le; value = w } → w ≡ most → OffersAtom hull t old mid → OffersAtom hull u mid new
+    → KeepsWithin i hull least most old new
+keeps_within i hull t u v w least most old mid new e same_low f same_high o p = λ s m h.
+    let high = offered s i hull u Le w mid new f m p h in
+    let low = offered s i hull t Ge v old mid e m o high.0 in (
+      low.0,
+      record {
+        low = λ inside. subst (λ (x : ℤ). x ≤ℤ hull.low) same_low (true_le v hull.low (low.1 (subst IsInside (sym same_low) inside)).0);
+        high = λ inside. subst (λ (x : ℤ). hull.high ≤ℤ x) same_high (true_le hull.high w (high.1 (subst IsInside (sym same_high) inside)).1);
+      },
+    )
+
+-- three lists one after the other
+pub keeps_all : (s : Trail) (p : Places) (h : Hulls) (a b d e : List Narrowing) → AreHullsMeasured s p h → KeepsWithin p.size h.size (least_size h) (most_size h) a b → KeepsWithin p.end h.end (least_end h) (most_end h) b d → KeepsWithin p.start h.start (least_start h) (most_start h) d e
+    → AreTrueNow s e → AreAllWithin h
+keeps_all s p h a b d e m size end' start all =
+    let third = start s m.start all in
+    let second = end' s m.end third.0 in
+    let first = size s m.size second.0 in
+    record { size = first.1; end = second.1; start = third.1 }
 
 -- what fits has its subjects
 pub places_of : (first : Domains) (p : Places) → IsFittingRule first (body_of p) → ArePlaces (length first) p
 places_of first p h = record { start = h.subjects 0 0 (omega arith); end = h.subjects 1 0 (omega arith); size = h.subjects 2 0 (omega arith) }
+
+-- an atom about one of the three
+pub own_start : (p : Places) (u : Atom) (op : Op) (v : ℤ) → u ≡ record { subject = p.start; op = op; value = v } → IsAboutPlace p u
+own_start p u op v e = (0, omega arith, sym (ap (λ (w : Atom). w.subject) e))
+
+pub own_end : (p : Places) (u : Atom) (op : Op) (v : ℤ) → u ≡ record { subject = p.end; op = op; value = v } → IsAboutPlace p u
+own_end p u op v e = (1, omega arith, sym (ap (λ (w : Atom). w.subject) e))
+
+pub own_size : (p : Places) (u : Atom) (op : Op) (v : ℤ) → u ≡ record { subject = p.size; op = op; value = v } → IsAboutPlace p u
+own_size p u op v e = (2, omega arith, sym (ap (λ (w : Atom). w.subject) e))
 
 -- measured ends are inside
 pub inside_of : (s : Trail) (p : Places) (h : Hulls) → AreHullsMeasured s p h → AreHullsInside h
@@ -63,9 +115,9 @@ within s p h xs l m o = record {
 pub given : (s : Trail) (p : Places) (h : Hulls) (t : Atom) → ArePlaces (length s.first) p → AreHullsMeasured s p h → t.subject < length s.first → ((xs : List ℤ) → AreWithin p h xs → AreInterval p xs → atom_holds xs t ≡ true) → IsGiven (body_of p) s t
 given s p h t l m n f = record { subject = n; at = λ xs o i. f xs (within s p h xs l m o) i }
 
-pub impossible : (s : Trail) (p : Places) (h : Hulls) → ArePlaces (length s.first) p → AreHullsMeasured s p h → (h.size.high <ℤ pos 0) ⊎ ((h.end.high <ℤ (h.start.low +ℤ h.size.low)) ⊎ ((h.start.high +ℤ h.size.high) <ℤ h.end.low)) → IsImpossible (body_of p) s
+pub impossible : (s : Trail) (p : Places) (h : Hulls) → ArePlaces (length s.first) p → AreHullsMeasured s p h → (h.size.high <ℤ pos 0) ⊎ ((h.end.high <ℤ least_end h) ⊎ ((h.start.high +ℤ h.size.high) <ℤ h.end.low)) → IsImpossible (body_of p) s
 impossible s p h l m (inl q) = record { at = λ xs o i. (let w = within s p h xs l m o in let z = i.0 in absurd (omega (arith, ints))) }
-impossible s p h l m (inr (inl q)) = record { at = λ xs o i. (let w = within s p h xs l m o in let z = i.1 in absurd (omega (arith, ints))) }
+impossible s p h l m (inr (inl q)) = record { at = λ xs o i. (let w = within s p h xs l m o in let y = i.0 in let z = i.1 in absurd (omega (arith, ints, clamps))) }
 impossible s p h l m (inr (inr q)) = record { at = λ xs o i. (let w = within s p h xs l m o in let z = i.1 in absurd (omega (arith, ints))) }
 
 -- an atom that is a bound
@@ -100,18 +152,53 @@ may_be s p h m o = record {
   late = (h.start.high, h.end.low, h.size.high, m.start.high, m.end.low, m.size.high, o.not_after);
 }
 
-pub at_rest : (s : Trail) (p : Places) (h : Hulls) → AreHullsMeasured s p h → FitsInterval h → IsAtRest (body_of p) s
-at_rest s p h m o = record {
-  decided = λ fixed xs opened.
-      let a = fixed 0 0 (omega arith) h.start.low (value_at xs p.start) m.start.low (opened 0 0 (omega arith)) in
-      let b = fixed 0 0 (omega arith) h.start.high (value_at xs p.start) m.start.high (opened 0 0 (omega arith)) in
-      let d = fixed 1 0 (omega arith) h.end.low (value_at xs p.end) m.end.low (opened 1 0 (omega arith)) in
-      let e = fixed 1 0 (omega arith) h.end.high (value_at xs p.end) m.end.high (opened 1 0 (omega arith)) in
-      let f = fixed 2 0 (omega arith) h.size.low (value_at xs p.size) m.size.low (opened 2 0 (omega arith)) in
-      let g = fixed 2 0 (omega arith) h.size.high (value_at xs p.size) m.size.high (opened 2 0 (omega arith)) in
+-- a bound holds that is in the way of nothing where it cannot stand in a fact
+holds : (a b : ℤ) → (b <ℤ a → IsInside a) → (IsInside a → a ≤ℤ b) → a ≤ℤ b
+holds a b f g = elim (le_or_less a b) [ inl k ↦ k | inr less ↦ g (f less) ]
+
+holds_up : (a b : ℤ) → (a <ℤ b → IsInside a) → (IsInside a → b ≤ℤ a) → b ≤ℤ a
+holds_up a b f g = elim (le_or_less b a) [ inl k ↦ k | inr less ↦ g (f less) ]
+
+module _ (s : Trail) (p : Places) (h : Hulls) (m : AreHullsMeasured s p h) (o : FitsInterval h) (w : AreAllWithin h) where
+  pub strong : IsStrongInterval s p.start p.end p.size
+  strong =
+      let a = m.start.low_inside in
+      let b = m.start.high_inside in
+      let d = m.end.low_inside in
+      let e = m.end.high_inside in
+      let f = m.size.low_inside in
+      let g = m.size.high_inside in
       let some = o.some in
       let early = o.not_before in
       let late = o.not_after in
-      (omega (arith, ints), omega (arith, ints));
-  strong = may_be s p h m o;
-}
+      let size_low = holds (least_size h) h.size.low (λ less. record { low = omega (arith, ints, clamps); high = omega (arith, ints, clamps) }) w.size.low in
+      let size_high = holds_up (most_size h) h.size.high (λ less. record { low = omega (arith, ints, clamps); high = omega (arith, ints, clamps) }) w.size.high in
+      let end_low = holds (least_end h) h.end.low (λ less. record { low = omega (arith, ints, clamps); high = omega (arith, ints, clamps) }) w.end.low in
+      let end_high = holds_up (most_end h) h.end.high (λ less. record { low = omega (arith, ints, clamps); high = omega (arith, ints, clamps) }) w.end.high in
+      let start_low = holds (least_start h) h.start.low (λ less. record { low = omega (arith, ints, clamps); high = omega (arith, ints, clamps) }) w.start.low in
+      let start_high = holds_up (most_start h) h.start.high (λ less. record { low = omega (arith, ints, clamps); high = omega (arith, ints, clamps) }) w.start.high in
+      record {
+        from_zero = λ z k. (let l = m.size.least z k in omega (arith, ints, clamps));
+        start_low = λ x k. (h.end.low, h.size.high, m.end.low, m.size.high, (let l = m.start.least x k in omega (arith, ints)));
+        start_high = λ x k. (h.end.high, h.size.low, m.end.high, m.size.low, (let l = m.start.greatest x k in omega (arith, ints, clamps)));
+        end_low = λ y k. (h.start.low, h.size.low, m.start.low, m.size.low, (let l = m.end.least y k in omega (arith, ints, clamps)));
+        end_high = λ y k. (h.start.high, h.size.high, m.start.high, m.size.high, (let l = m.end.greatest y k in omega (arith, ints)));
+        size_low = λ z k. (h.start.high, h.end.low, m.start.high, m.end.low, (let l = m.size.least z k in omega (arith, ints, clamps)));
+        size_high = λ z k. (h.start.low, h.end.high, m.start.low, m.end.high, (let l = m.size.greatest z k in omega (arith, ints)));
+      }
+
+  pub at_rest : IsAtRest (body_of p) s
+  at_rest = record {
+    decided = λ fixed xs opened.
+        let a = fixed 0 0 (omega arith) h.start.low (value_at xs p.start) m.start.low (opened 0 0 (omega arith)) in
+        let b = fixed 0 0 (omega arith) h.start.high (value_at xs p.start) m.start.high (opened 0 0 (omega arith)) in
+        let d = fixed 1 0 (omega arith) h.end.low (value_at xs p.end) m.end.low (opened 1 0 (omega arith)) in
+        let e = fixed 1 0 (omega arith) h.end.high (value_at xs p.end) m.end.high (opened 1 0 (omega arith)) in
+        let f = fixed 2 0 (omega arith) h.size.low (value_at xs p.size) m.size.low (opened 2 0 (omega arith)) in
+        let g = fixed 2 0 (omega arith) h.size.high (value_at xs p.size) m.size.high (opened 2 0 (omega arith)) in
+        let some = o.some in
+        let early = o.not_before in
+        let late = o.not_after in
+        (omega (arith, ints), omega (arith, ints, clamps));
+    strong = strong;
+  }

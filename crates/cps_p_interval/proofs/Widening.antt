@@ -24,3 +24,12 @@ module _ (a b sum d : ℤ) (fits : FitsSigned w64 (a +ℤ b)) (is : sum ≡ a +�
     where
       more : (x : ℤ) → x <ℤ (x +ℤ pos 1)
       more x = omega (arith, ints)
+
+-- what is one less than a number
+pub one_less : (a d : ℤ) → FitsSigned w64 (to_z w64 (of_z w64 a) -ℤ pos 1) → d ≡ to_z w64 (of_z w64 a) -ℤ pos 1 → to_z w64 (of_z w64 d) <ℤ to_z w64 (of_z w64 a)
+one_less a d g e =
+    let same = to_z-of_z w64 d (subst (λ (x : ℤ). FitsSigned w64 x) (sym e) g) ∙ e in
+    subst (λ (x : ℤ). x <ℤ to_z w64 (of_z w64 a)) (sym same) (less (to_z w64 (of_z w64 a)))
+  where
+    less : (x : ℤ) → (x -ℤ pos 1) <ℤ x
+    less x = omega (arith, ints)

@@ -1,17 +1,20 @@
 -- An interval's bounds.
-use Rattle.std.specs.Prelude.{◌≡◌, ◌<◌, ◌≤ℤ◌, ◌+ℤ◌, ℕ, ℤ, pos, List, length, Bool, true, false}
+use Rattle.std.specs.Prelude.{◌≡◌, ◌<◌, ◌≤ℤ◌, ◌+ℤ◌, ◌-ℤ◌, ℕ, ℤ, pos, List, length, Bool, true, false, Contains}
+use Rattle.std.specs.Int.{int_max}
 use Rattle.cps_model.specs.Scheduling.{IsInterval}
 use Rattle.cps_literal.specs.declared.atom.Atom.{Atom}
 use Rattle.cps_literal.specs.Truth.{value_at, atom_holds}
 use Rattle.cps_instance.specs.declared.task.Body.{Body}
 use Rattle.cps_instance.specs.declared.task.Body.TheVariants.{Interval}
+use Rattle.cps_instance.specs.Tasks.{subjects_of_body}
 use Rattle.cps_trail.specs.Trail.{Trail, IsInside}
 use Rattle.cps_rule.specs.declared.rule.Narrowing.{Narrowing}
 use Rattle.cps_rule.specs.Rules.{IsImpossible}
 use Rattle.cps_p_interval.specs.declared.interval.Places.{Places}
 use Rattle.cps_p_interval.specs.declared.interval.Hulls.{Hulls}
 use Rattle.cps_p_interval.specs.declared.interval.Support.{Support}
-use Rattle.cps_p_span.specs.Citing.{GivesMore}
+use Rattle.cps_p_span.specs.declared.hull.Hull.{Hull}
+use Rattle.cps_p_span.specs.Citing.{AreTrueNow, GivesMore}
 use Rattle.cps_p_span.specs.Hulls.{IsHullNow}
 
 abbrev pub body_of : Places → Body
@@ -21,6 +24,10 @@ body_of p = Interval p.start p.end p.size
 abbrev pub is_interval : Body → Bool
 is_interval (Interval start end size) = true
 is_interval body = false
+
+-- an atom is about one of the three subjects
+abbrev pub IsAboutPlace : Places → Atom → Type 0
+IsAboutPlace p u = Contains (subjects_of_body (body_of p)) u.subject
 
 -- the subjects are below a number
 pub record ArePlaces (n : ℕ) (p : Places) : Type 0 where
@@ -53,11 +60,47 @@ abbrev pub AddsBounds : Places → Hulls → List Narrowing → List Narrowing �
 AddsBounds p h old new = (s : Trail) → ArePlaces (length s.first) p → AreHullsMeasured s p h
     → GivesMore (body_of p) s old new
 
+-- what the ends of the two others leave to each, where a size is 0 or more
+abbrev pub least_size : Hulls → ℤ
+least_size h = int_max (pos 0) (h.end.low -ℤ h.start.high)
+
+abbrev pub most_size : Hulls → ℤ
+most_size h = h.end.high -ℤ h.start.low
+
+abbrev pub least_end : Hulls → ℤ
+least_end h = h.start.low +ℤ int_max (pos 0) h.size.low
+
+abbrev pub most_end : Hulls → ℤ
+most_end h = h.start.high +ℤ h.size.high
+
+abbrev pub least_start : Hulls → ℤ
+least_start h = h.end.low -ℤ h.size.high
+
+abbrev pub most_start : Hulls → ℤ
+most_start h = h.end.high -ℤ int_max (pos 0) h.size.low
+
 -- the ends leave room for an interval
 pub record FitsInterval (h : Hulls) : Type 0 where
   pub some : pos 0 ≤ℤ h.size.high
-  pub not_before : (h.start.low +ℤ h.size.low) ≤ℤ h.end.high
-  pub not_after : h.end.low ≤ℤ (h.start.high +ℤ h.size.high)
+  pub not_before : least_end h ≤ℤ h.end.high
+  pub not_after : h.end.low ≤ℤ most_end h
+
+-- ends lie between two numbers, as far as these can stand in a fact
+pub record AreEndsWithin (h : Hull) (least most : ℤ) : Type 0 where
+  pub low : IsInside least → least ≤ℤ h.low
+  pub high : IsInside most → h.high ≤ℤ most
+
+-- in each store in which these are a subject's ends: where each target of a newer list is true, so is each of an older
+-- one, and the ends lie between two numbers
+abbrev pub KeepsWithin : ℕ → Hull → ℤ → ℤ → List Narrowing → List Narrowing → Type 0
+KeepsWithin i h least most old new = (s : Trail) → IsHullNow s i h → AreTrueNow s new
+    → AreTrueNow s old × AreEndsWithin h least most
+
+-- so do the ends of all three
+pub record AreAllWithin (h : Hulls) : Type 0 where
+  pub size : AreEndsWithin h.size (least_size h) (most_size h)
+  pub end : AreEndsWithin h.end (least_end h) (most_end h)
+  pub start : AreEndsWithin h.start (least_start h) (most_start h)
 
 -- values make an interval
 abbrev pub AreInterval : Places → List ℤ → Type 0
@@ -67,13 +110,18 @@ AreInterval p xs = IsInterval (value_at xs p.start) (value_at xs p.end) (value_a
 pub record IsSupport (n : ℕ) (p : Places) (target : Atom) (u : Support) : Type 0 where
   pub one : u.one.subject < n
   pub other : u.other.subject < n
+  pub own_one : IsAboutPlace p u.one
+  pub own_other : IsAboutPlace p u.other
   pub gives : (xs : List ℤ) → atom_holds xs u.one ≡ true → atom_holds xs u.other ≡ true → AreInterval p xs
       → atom_holds xs target ≡ true
 
--- three atoms that leave no interval
+-- three atoms about its subjects that leave no interval
 pub record IsOpposition (n : ℕ) (p : Places) (u : Support) (last : Atom) : Type 0 where
   pub one : u.one.subject < n
   pub other : u.other.subject < n
   pub third : last.subject < n
+  pub own_one : IsAboutPlace p u.one
+  pub own_other : IsAboutPlace p u.other
+  pub own_third : IsAboutPlace p last
   pub excludes : (xs : List ℤ) → atom_holds xs u.one ≡ true → atom_holds xs u.other ≡ true → atom_holds xs last ≡ true
       → AreInterval p xs → ⊥

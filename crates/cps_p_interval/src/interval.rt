@@ -3,10 +3,10 @@
 //! Bounds are passed on in every direction. A bound of one follows from one bound of each of the two others; of a bound
 //! that is explained, one of the two facts is the bound that was there, and the other is loosened to what is needed
 //! beside it.
-ghost use Rattle.std.specs.Prelude.{◌≡◌, ◌<◌, length, IfSome, OnOk, true};
+ghost use Rattle.std.specs.Prelude.{◌≡◌, ◌<◌, ℕ, [], ◌∷◌, length, IfSome, OnOk, true};
 ghost use Rattle.cps_literal.specs.Truth.{atom_holds};
 ghost use Rattle.cps_p_span.specs.Citing.{Cites};
-ghost use Rattle.cps_p_interval.specs.Intervals.{ArePlaces, AreHullsInside, IsSupport, IsOpposition, AreHullsMeasured, FitsInterval, LeavesNoInterval, AddsBounds};
+ghost use Rattle.cps_p_interval.specs.Intervals.{ArePlaces, AreHullsInside, IsSupport, IsOpposition, AreHullsMeasured, FitsInterval, LeavesNoInterval, AddsBounds, KeepsWithin, least_size, most_size, least_end, most_end, least_start, most_start};
 
 use cps_enforce::Enforced;
 use cps_instance::{Body, Task};
@@ -94,7 +94,7 @@ fn contradiction(hulls: Hulls) -> Option<i64>
     if hulls.size.high < 0 {
         return Some(0);
     }
-    if hulls.end.high < hulls.start.low + hulls.size.low {
+    if hulls.end.high < hulls.start.low + hulls.size.low.max(0) {
         return Some(1);
     }
     if hulls.start.high + hulls.size.high < hulls.end.low {
@@ -106,7 +106,9 @@ fn contradiction(hulls: Hulls) -> Option<i64>
 /// Offers the bounds of the size.
 fn offer_size(places: Places, hulls: Hulls, found: &mut Vec<Narrowing>) -> Result<(), AllocError>
     requires { AreHullsInside hulls }
-    ensures { OnOk result (AddsBounds places hulls found.old.items found.new.items) }
+    ensures given { OnOk result (AddsBounds places hulls found.old.items found.new.items) }
+    ensures rest { OnOk result (KeepsWithin places.size hulls.size (least_size hulls) (most_size hulls)
+        found.old.items found.new.items) }
 {
     let least = (hulls.end.low - hulls.start.high).max(0);
     let most = hulls.end.high - hulls.start.low;
@@ -128,7 +130,9 @@ fn offer_size(places: Places, hulls: Hulls, found: &mut Vec<Narrowing>) -> Resul
 /// Offers the bounds of the end.
 fn offer_end(places: Places, hulls: Hulls, found: &mut Vec<Narrowing>) -> Result<(), AllocError>
     requires { AreHullsInside hulls }
-    ensures { OnOk result (AddsBounds places hulls found.old.items found.new.items) }
+    ensures given { OnOk result (AddsBounds places hulls found.old.items found.new.items) }
+    ensures rest { OnOk result (KeepsWithin places.end hulls.end (least_end hulls) (most_end hulls)
+        found.old.items found.new.items) }
 {
     let least = hulls.start.low + hulls.size.low.max(0);
     let most = hulls.start.high + hulls.size.high;
@@ -150,7 +154,9 @@ fn offer_end(places: Places, hulls: Hulls, found: &mut Vec<Narrowing>) -> Result
 /// Offers the bounds of the start.
 fn offer_start(places: Places, hulls: Hulls, found: &mut Vec<Narrowing>) -> Result<(), AllocError>
     requires { AreHullsInside hulls }
-    ensures { OnOk result (AddsBounds places hulls found.old.items found.new.items) }
+    ensures given { OnOk result (AddsBounds places hulls found.old.items found.new.items) }
+    ensures rest { OnOk result (KeepsWithin places.start hulls.start (least_start hulls) (most_start hulls)
+        found.old.items found.new.items) }
 {
     let least = hulls.end.low - hulls.size.high;
     let most = hulls.end.high - hulls.size.low.max(0);
@@ -262,7 +268,7 @@ fn support_of(past: &Before, places: Places, target: Atom, hint: Hint) -> Option
 fn cite_both(past: &Before, support: Support, facts: &mut Vec<Atom>) -> Result<bool, AllocError>
     requires one { support.one.subject < length past.now.first }
     requires other { support.other.subject < length past.now.first }
-    ensures { result ≡ Ok true → Cites past.now facts.old.items facts.new.items
+    ensures { result ≡ Ok true → Cites past.now (support.one.subject ∷ support.other.subject ∷ []) facts.old.items facts.new.items
         (λ xs. (atom_holds xs support.one ≡ true) × (atom_holds xs support.other ≡ true)) }
 {
     if !cite(past, support.one, facts)? {
@@ -274,37 +280,69 @@ fn cite_both(past: &Before, support: Support, facts: &mut Vec<Atom>) -> Result<b
     cite(past, support.other, facts)
 }
 
-/// Two bounds that with a third leave no interval; of a size below 0 alone, the same bound twice.
-fn opposition(past: &Before, places: Places, hint: Hint) -> Option<(Support, Atom)>
+/// That the size is below 0, three times.
+fn negative_size(places: Places) -> (Support, Atom)
+    ensures { (n : ℕ) → ArePlaces n places → IsOpposition n places result.0 result.1 }
+{
+    let negative = at_most(places.size, -1);
+    let support = Support {
+        one: negative,
+        other: negative,
+    };
+    (support, negative)
+}
+
+/// Bounds of the start and the size that let the end be no earlier than some time, and that it is. A size that may be 0
+/// or less counts as 0, and is no part of the reason.
+fn early_end(past: &Before, places: Places) -> Option<(Support, Atom)>
     requires { ArePlaces (length past.now.first) places }
     ensures { IfSome result (λ p. IsOpposition (length past.now.first) places p.0 p.1) }
 {
-    let (start_low, start_high) = past.ends(places.start);
-    let (size_low, size_high) = past.ends(places.size);
-    if hint.a == 0 {
-        let negative = at_most(places.size, -1);
-        return Some((
-            Support {
-                one: negative,
-                other: negative,
-            },
-            negative,
-        ));
-    }
-    if hint.a == 1 {
-        let sum = start_low.checked_add(size_low)?;
+    let (start_low, _) = past.ends(places.start);
+    let (size_low, _) = past.ends(places.size);
+    let start = at_least(places.start, start_low);
+    if size_low <= 0 {
         let support = Support {
-            one: at_least(places.start, start_low),
-            other: at_least(places.size, size_low),
+            one: start,
+            other: start,
         };
-        return Some((support, at_most(places.end, sum.checked_sub(1)?)));
+        return Some((support, at_most(places.end, start_low.checked_sub(1)?)));
     }
+    let sum = start_low.checked_add(size_low)?;
+    let support = Support {
+        one: start,
+        other: at_least(places.size, size_low),
+    };
+    Some((support, at_most(places.end, sum.checked_sub(1)?)))
+}
+
+/// Bounds of the start and the size that let the end be no later than some time, and that it is.
+fn late_end(past: &Before, places: Places) -> Option<(Support, Atom)>
+    requires { ArePlaces (length past.now.first) places }
+    ensures { IfSome result (λ p. IsOpposition (length past.now.first) places p.0 p.1) }
+{
+    let (_, start_high) = past.ends(places.start);
+    let (_, size_high) = past.ends(places.size);
     let sum = start_high.checked_add(size_high)?;
     let support = Support {
         one: at_most(places.start, start_high),
         other: at_most(places.size, size_high),
     };
     Some((support, at_least(places.end, sum.checked_add(1)?)))
+}
+
+/// Two bounds that with a third leave no interval. Where fewer do, one stands more than once.
+fn opposition(past: &Before, places: Places, hint: Hint) -> Option<(Support, Atom)>
+    requires { ArePlaces (length past.now.first) places }
+    ensures { IfSome result (λ p. IsOpposition (length past.now.first) places p.0 p.1) }
+{
+    if hint.a == 0 {
+        return Some(negative_size(places));
+    }
+    if hint.a == 1 {
+        return early_end(past, places);
+    }
+    late_end(past, places)
 }
 
 impl Interval {

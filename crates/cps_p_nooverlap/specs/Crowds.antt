@@ -15,6 +15,7 @@ use Rattle.cps_p_nooverlap.specs.declared.crowd.Crowd.TheVariants.{Detectable, N
 use Rattle.cps_p_nooverlap.specs.declared.edge_finding.Edge.{Edge}
 use Rattle.cps_p_span.specs.Citing.{Cites}
 use Rattle.cps_p_span.specs.Spans.{start_at, end_at, is_present}
+use Rattle.cps_instance.specs.Tasks.{span_subjects}
 
 -- where a span starts, in time or with time reversed
 abbrev pub near_at : Bool → List ℤ → Span → ℤ
@@ -103,4 +104,4 @@ pub record IsAboutOne (us : List Atom) (u : Atom) : Type 0 where
 -- facts of the store and spans that do not overlap give an atom
 pub record IsReasoned (s : Trail) (ps : List Span) (us : List Atom) (u : Atom) : Type 0 where
   pub subject : u.subject < length s.first
-  pub cites : Cites s [] us (λ xs. IsNoOverlap (span_runs xs ps) → atom_holds xs u ≡ true)
+  pub cites : Cites s (span_subjects ps) [] us (λ xs. IsNoOverlap (span_runs xs ps) → atom_holds xs u ≡ true)

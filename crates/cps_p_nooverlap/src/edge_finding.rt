@@ -3,6 +3,7 @@
 //!
 //! Source: Vilím, "Filtering Algorithms for the Unary Resource Constraint" (2008).
 ghost use Rattle.std.specs.Prelude.{◌≡◌, ◌≤ℤ◌, true, IfSome};
+ghost use Rattle.cps_instance.specs.Tasks.{span_subjects, subjects_of_span};
 ghost use Rattle.cps_p_span.specs.Citing.{Cites};
 ghost use Rattle.cps_p_nooverlap.specs.Crowds.{low_at, IsCrowd, LastsAt, StartsFrom};
 ghost use Rattle.cps_p_span.specs.Spans.{IsSpan, AreSpans};
@@ -178,7 +179,7 @@ fn cite_early(
     facts: &mut Vec<Atom>,
 ) -> Result<bool, AllocError>
     requires { IsSpan past.now.first span.now }
-    ensures { result ≡ Ok true → Cites past.now facts.old.items facts.new.items
+    ensures { result ≡ Ok true → Cites past.now (subjects_of_span span.now) facts.old.items facts.new.items
         (λ xs. LastsAt xs span.now weight × (window.from ≤ℤ low_at window.ends window.is_reversed xs span.now)) }
 {
     if !cite_length(past, span, weight, facts)? {
@@ -196,7 +197,7 @@ pub(crate) fn cite_edge(
     facts: &mut Vec<Atom>,
 ) -> Result<bool, AllocError>
     requires spans { AreSpans past.now.first spans.now }
-    ensures { result ≡ Ok true → Cites past.now facts.old.items facts.new.items
+    ensures { result ≡ Ok true → Cites past.now (span_subjects spans.now) facts.old.items facts.new.items
         (λ xs. StartsFrom crowd.pushed.is_reversed xs spans.now crowd.pushed.place crowd.pushed.time) }
 {
     match part_of(marks, crowd, spans.len()) {

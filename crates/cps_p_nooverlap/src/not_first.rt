@@ -3,6 +3,7 @@
 //!
 //! Source: Vilím, "Filtering Algorithms for the Unary Resource Constraint" (2008).
 ghost use Rattle.std.specs.Prelude.{◌≡◌, true};
+ghost use Rattle.cps_instance.specs.Tasks.{span_subjects};
 ghost use Rattle.cps_p_span.specs.Citing.{Cites};
 ghost use Rattle.cps_p_nooverlap.specs.Crowds.{StartsFrom};
 ghost use Rattle.cps_p_span.specs.Spans.{AreSpans};
@@ -139,7 +140,7 @@ pub(crate) fn cite_not_first(
     facts: &mut Vec<Atom>,
 ) -> Result<bool, AllocError>
     requires spans { AreSpans past.now.first spans.now }
-    ensures { result ≡ Ok true → Cites past.now facts.old.items facts.new.items
+    ensures { result ≡ Ok true → Cites past.now (span_subjects spans.now) facts.old.items facts.new.items
         (λ xs. StartsFrom crowd.pushed.is_reversed xs spans.now crowd.pushed.place crowd.pushed.time) }
 {
     let whole = marks.whole.as_slice();

@@ -4,6 +4,7 @@
 ghost use Rattle.std.specs.Prelude.{◌≡◌, true};
 ghost use Rattle.cps_instance.specs.Parts.{span_runs};
 ghost use Rattle.cps_model.specs.Scheduling.{IsNoOverlap};
+ghost use Rattle.cps_instance.specs.Tasks.{span_subjects};
 ghost use Rattle.cps_p_span.specs.Citing.{Cites};
 ghost use Rattle.cps_p_span.specs.Spans.{AreSpans};
 
@@ -103,7 +104,7 @@ pub(crate) fn refute_window(
     facts: &mut Vec<Atom>,
 ) -> Result<bool, AllocError>
     requires spans { AreSpans past.now.first spans.now }
-    ensures { result ≡ Ok true → Cites past.now facts.old.items facts.new.items
+    ensures { result ≡ Ok true → Cites past.now (span_subjects spans.now) facts.old.items facts.new.items
         (λ xs. IsNoOverlap (span_runs xs spans.now) → ⊥) }
 {
     match count_of(weights, spans.len()) {

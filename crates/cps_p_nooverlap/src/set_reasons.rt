@@ -5,6 +5,7 @@
 ghost use Rattle.std.specs.Prelude.{[], ◌≡◌, true, IfOk, IfSome, All};
 ghost use Rattle.cps_instance.specs.Parts.{span_runs};
 ghost use Rattle.cps_model.specs.Scheduling.{IsNoOverlap};
+ghost use Rattle.cps_instance.specs.Tasks.{span_subjects, subjects_of_span};
 ghost use Rattle.cps_p_span.specs.Citing.{Cites};
 ghost use Rattle.cps_p_nooverlap.specs.Crowds.{pushed_by, IsReasoned, IsAboutOne, StartsBeforeUnless, StartsFrom};
 ghost use Rattle.cps_p_span.specs.Spans.{AreSpans, IsSmallAtom, IsSpan};
@@ -31,7 +32,7 @@ pub(crate) fn refute_anew(
     facts: &mut Vec<Atom>,
 ) -> Result<bool, AllocError>
     requires { AreSpans past.now.first spans.now }
-    ensures { result ≡ Ok true → Cites past.now [] facts.new.items (λ xs. IsNoOverlap (span_runs xs spans.now) → ⊥) }
+    ensures { result ≡ Ok true → Cites past.now (span_subjects spans.now) [] facts.new.items (λ xs. IsNoOverlap (span_runs xs spans.now) → ⊥) }
 {
     facts.clear();
     refute_window(past, spans, weights, overload, facts)
@@ -46,7 +47,7 @@ fn cite_push(
     facts: &mut Vec<Atom>,
 ) -> Result<bool, AllocError>
     requires { AreSpans past.now.first spans.now }
-    ensures { result ≡ Ok true → Cites past.now facts.old.items facts.new.items
+    ensures { result ≡ Ok true → Cites past.now (span_subjects spans.now) facts.old.items facts.new.items
         (λ xs. StartsFrom (pushed_by crowd).is_reversed xs spans.now (pushed_by crowd).place (pushed_by crowd).time) }
 {
     match crowd {
@@ -113,7 +114,7 @@ fn cite_absence(
     facts: &mut Vec<Atom>,
 ) -> Result<bool, AllocError>
     requires { IsSpan past.now.first span.now }
-    ensures { result ≡ Ok true → Cites past.now facts.old.items facts.new.items
+    ensures { result ≡ Ok true → Cites past.now (subjects_of_span span.now) facts.old.items facts.new.items
         (λ xs. StartsBeforeUnless pushed.is_reversed xs span.now pushed.time target) }
 {
     let sooner = pushed.time.saturating_sub(1);

@@ -8,9 +8,10 @@ ghost use Rattle.cps_instance.specs.Parts.{span_runs};
 ghost use Rattle.cps_literal.specs.Truth.{atom_holds};
 ghost use Rattle.cps_model.specs.Scheduling.{IsNoOverlap};
 ghost use Rattle.cps_rule.specs.Rules.{IsImpossible};
-ghost use Rattle.cps_p_span.specs.Citing.{Cites, GivesMore};
+ghost use Rattle.cps_instance.specs.Tasks.{span_subjects};
+ghost use Rattle.cps_p_span.specs.Citing.{AreTrueNow, Cites, GivesMore};
 ghost use Rattle.cps_p_nooverlap.specs.Crowds.{IsReasoned};
-ghost use Rattle.cps_p_span.specs.Spans.{AreSeen, AreSpans, AreAllowed, IsPair};
+ghost use Rattle.cps_p_span.specs.Spans.{AreSeen, AreSpans, AreAllowed, ArePairsSettled, IsPair};
 
 use crate::desk::Desk;
 use crate::hints::{Question, hint_of, question_of, window_hint};
@@ -157,6 +158,8 @@ pub(crate) fn meet_both(
     ensures impossible { IfOk result
         (λ answer. IfSome answer (λ hint. IsImpossible (BodyOf.NoOverlap spans.now) store.now)) }
     ensures allowed { result ≡ Ok None → AreAllowed seen.now (length spans.now) }
+    ensures rest { result ≡ Ok None → AreTrueNow store.now found.new.items
+        → ArePairsSettled store.now spans.now seen.now (length spans.now) }
 {
     if let Some(pair) = meet_all(spans, seen, found)? {
         return Ok(Some(pair.hint()));
@@ -178,7 +181,7 @@ fn refute_set(
     facts: &mut Vec<Atom>,
 ) -> Result<bool, AllocError>
     requires { AreSpans past.now.first spans.now }
-    ensures { result ≡ Ok true → Cites past.now [] facts.new.items (λ xs. IsNoOverlap (span_runs xs spans.now) → ⊥) }
+    ensures { result ≡ Ok true → Cites past.now (span_subjects spans.now) [] facts.new.items (λ xs. IsNoOverlap (span_runs xs spans.now) → ⊥) }
 {
     desk.begin(past, spans)?;
     let window = Overload {
@@ -226,7 +229,7 @@ fn explain_set(
     facts: &mut Vec<Atom>,
 ) -> Result<bool, AllocError>
     requires { AreSpans past.now.first spans.now }
-    ensures { result ≡ Ok true → Cites past.now [] facts.new.items
+    ensures { result ≡ Ok true → Cites past.now (span_subjects spans.now) [] facts.new.items
         (λ xs. IsNoOverlap (span_runs xs spans.now) → atom_holds xs question.target ≡ true) }
 {
     if !explain_at(past, spans, desk, question)? {
@@ -246,7 +249,7 @@ pub(crate) fn explain_both(
     facts: &mut Vec<Atom>,
 ) -> Result<bool, AllocError>
     requires { AreSpans past.now.first spans.now }
-    ensures { result ≡ Ok true → Cites past.now [] facts.new.items
+    ensures { result ≡ Ok true → Cites past.now (span_subjects spans.now) [] facts.new.items
         (λ xs. IsNoOverlap (span_runs xs spans.now) → atom_holds xs wanted.target ≡ true) }
 {
     if let Some(pair) = pair_of(wanted.hint, spans.len()) {
@@ -270,7 +273,7 @@ fn refute_two(
 ) -> Result<bool, AllocError>
     requires spans { AreSpans past.now.first spans.now }
     requires pair { IsPair (length spans.now) pair }
-    ensures { result ≡ Ok true → Cites past.now [] facts.new.items (λ xs. IsNoOverlap (span_runs xs spans.now) → ⊥) }
+    ensures { result ≡ Ok true → Cites past.now (span_subjects spans.now) [] facts.new.items (λ xs. IsNoOverlap (span_runs xs spans.now) → ⊥) }
 {
     facts.clear();
     refute_pair(past, spans, pair, facts)
@@ -285,7 +288,7 @@ pub(crate) fn refute_both(
     facts: &mut Vec<Atom>,
 ) -> Result<bool, AllocError>
     requires { AreSpans past.now.first spans.now }
-    ensures { result ≡ Ok true → Cites past.now [] facts.new.items (λ xs. IsNoOverlap (span_runs xs spans.now) → ⊥) }
+    ensures { result ≡ Ok true → Cites past.now (span_subjects spans.now) [] facts.new.items (λ xs. IsNoOverlap (span_runs xs spans.now) → ⊥) }
 {
     if let Some(pair) = pair_of(hint, spans.len()) {
         if refute_two(past, spans, pair, facts)? {

@@ -1,5 +1,6 @@
 //! Atoms that say when a span starts or ends, in time or with time reversed.
 ghost use Rattle.std.specs.Prelude.{◌≡◌, ◌≤ℤ◌, ◌-ℤ◌, pos, IfSome, true};
+ghost use Rattle.cps_instance.specs.Tasks.{subjects_of_span};
 ghost use Rattle.cps_p_span.specs.Citing.{Cites};
 ghost use Rattle.cps_p_nooverlap.specs.Crowds.{near_at, far_at, low_at, high_at};
 ghost use Rattle.cps_p_span.specs.Spans.{SaysOfTimes, IsSpan};
@@ -90,7 +91,7 @@ pub(crate) fn cite_low(
     facts: &mut Vec<Atom>,
 ) -> Result<bool, AllocError>
     requires { IsSpan past.now.first span.now }
-    ensures { result ≡ Ok true → Cites past.now facts.old.items facts.new.items
+    ensures { result ≡ Ok true → Cites past.now (subjects_of_span span.now) facts.old.items facts.new.items
         (λ xs. window.from ≤ℤ low_at window.ends window.is_reversed xs span.now) }
 {
     match low_atom(span, window) {
@@ -107,7 +108,7 @@ pub(crate) fn cite_high(
     facts: &mut Vec<Atom>,
 ) -> Result<bool, AllocError>
     requires { IsSpan past.now.first span.now }
-    ensures { result ≡ Ok true → Cites past.now facts.old.items facts.new.items
+    ensures { result ≡ Ok true → Cites past.now (subjects_of_span span.now) facts.old.items facts.new.items
         (λ xs. high_at window.ends window.is_reversed xs span.now ≤ℤ window.to) }
 {
     match high_atom(span, window) {

@@ -6,6 +6,7 @@
 //! A span whose length varies is counted by its least end less its greatest start. A task says when spans start and
 //! end, and nothing of their sizes, so this is the least length that follows from it.
 ghost use Rattle.std.specs.Prelude.{◌≡◌, ◌<◌, ◌≤ℤ◌, ℤ, List, true, length, IsTrue};
+ghost use Rattle.cps_instance.specs.Tasks.{span_subjects, subjects_of_span};
 ghost use Rattle.cps_p_span.specs.Citing.{Cites};
 ghost use Rattle.cps_p_nooverlap.specs.Crowds.{far_at, IsRun, AreRuns, LastsAt};
 ghost use Rattle.cps_p_span.specs.Spans.{IsSpan, AreSpans};
@@ -40,7 +41,7 @@ pub(crate) fn cite_length(
     facts: &mut Vec<Atom>,
 ) -> Result<bool, AllocError>
     requires { IsSpan past.now.first span.now }
-    ensures { result ≡ Ok true → Cites past.now facts.old.items facts.new.items (λ xs. LastsAt xs span.now weight) }
+    ensures { result ≡ Ok true → Cites past.now (subjects_of_span span.now) facts.old.items facts.new.items (λ xs. LastsAt xs span.now weight) }
 {
     if lasts(span, weight) {
         return Ok(true);
@@ -66,7 +67,7 @@ fn cite_run(
     facts: &mut Vec<Atom>,
 ) -> Result<bool, AllocError>
     requires { IsSpan past.now.first span.now }
-    ensures { result ≡ Ok true → Cites past.now facts.old.items facts.new.items
+    ensures { result ≡ Ok true → Cites past.now (subjects_of_span span.now) facts.old.items facts.new.items
         (λ xs. IsRun window.ends window.is_reversed xs span.now weight window.from window.to) }
 {
     if !cite_all(past, span.presence.as_slice(), facts)? {
@@ -90,7 +91,7 @@ fn cite_counted(
     facts: &mut Vec<Atom>,
 ) -> Result<bool, AllocError>
     requires { IsSpan past.now.first span.now }
-    ensures { result ≡ Ok true → Cites past.now facts.old.items facts.new.items
+    ensures { result ≡ Ok true → Cites past.now (subjects_of_span span.now) facts.old.items facts.new.items
         (λ xs. 0 < weight → IsRun window.ends window.is_reversed xs span.now weight window.from window.to) }
 {
     if weight == 0 {
@@ -109,7 +110,7 @@ pub(crate) fn cite_runs(
 ) -> Result<bool, AllocError>
     requires spans { AreSpans past.now.first spans.now }
     requires each { length weights.now ≡ length spans.now }
-    ensures { result ≡ Ok true → Cites past.now facts.old.items facts.new.items
+    ensures { result ≡ Ok true → Cites past.now (span_subjects spans.now) facts.old.items facts.new.items
         (λ xs. AreRuns window.ends window.is_reversed xs spans.now weights.now window.from window.to) }
 {
     for place in 0..spans.len() {
@@ -129,7 +130,7 @@ pub(crate) fn cite_late(
     facts: &mut Vec<Atom>,
 ) -> Result<bool, AllocError>
     requires { IsSpan past.now.first span.now }
-    ensures { result ≡ Ok true → Cites past.now facts.old.items facts.new.items
+    ensures { result ≡ Ok true → Cites past.now (subjects_of_span span.now) facts.old.items facts.new.items
         (λ xs. end ≤ℤ far_at pushed.is_reversed xs span.now) }
 {
     let late = Window {

@@ -2,6 +2,7 @@ pub mod Apart
 pub mod Timing
 pub mod Pairing
 pub mod Ordering
+pub mod Settling
 pub mod Resting
 pub mod Citing
 pub mod Refusing

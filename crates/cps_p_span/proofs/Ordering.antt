@@ -18,7 +18,7 @@ module _ (s : Trail) (ps : List Span) (vs : List Seen) (seen : AllZip (IsSpanSee
   seen_at : (k : ℕ) (d : Span) → k < length ps → IsSpanSeen s (get_or ps k d) (get_or vs k no_seen)
   seen_at k d l = zip_at (IsSpanSeen s) ps vs k d no_seen seen l
 
-  may_precede : (i j : ℕ) (d : Span) → i < length ps → j < length ps → (get_or vs i no_seen).times.end_low ≤ℤ (get_or vs j no_seen).times.start_high → MayPrecede s (get_or ps i d) (get_or ps j d)
+  pub may_precede : (i j : ℕ) (d : Span) → i < length ps → j < length ps → (get_or vs i no_seen).times.end_low ≤ℤ (get_or vs j no_seen).times.start_high → MayPrecede s (get_or ps i d) (get_or ps j d)
   may_precede i j d l m h = record {
     end = (get_or vs i no_seen).times.end_low;
     start = (get_or vs j no_seen).times.start_high;

@@ -17,10 +17,10 @@ use Rattle.cps_trail.specs.Trail.{Trail, IsTrueNow}
 use Rattle.cps_propagate.specs.Now.{IsOpenTo, IsFixedNow, AreOpen}
 use Rattle.cps_rule.specs.Rules.{IsAtRest, IsFittingRule}
 use Rattle.cps_p_span.specs.declared.seen.Seen.{Seen}
-use Rattle.cps_p_span.specs.Spans.{start_at, end_at, is_present, IsBefore, AreSpans, IsSpanSeen, AreAllowed, no_seen}
+use Rattle.cps_p_span.specs.Spans.{start_at, end_at, is_present, IsBefore, AreSpans, IsSpanSeen, AreSeen, AreAllowed, ArePairsSettled, no_seen}
 use Rattle.cps_p_span.proofs.Apart.{no_overlap}
 use Rattle.cps_p_span.proofs.Timing.{zip_at}
-use Rattle.cps_p_span.proofs.Ordering.{has_orders}
+use Rattle.cps_p_span.proofs.Settling.{strong_of}
 
 pub of_span : (P : ℕ → Type 0) (ps : List Span) (k : ℕ) (d : Span) → k < length ps → All P (span_subjects ps) → All P (subjects_of_span (get_or ps k d))
 of_span P [] k d l h = absurd (omega arith)
@@ -78,8 +78,8 @@ module _ (s : Trail) (ps : List Span) (vs : List Seen) (seen : AllZip (IsSpanSee
       let h = end_fixed j d m in
       elim (allowed i j l m (sure j d m f) (sure i d li e)) [ inl q ↦ inr (omega (arith, ints)) | inr q ↦ inl (omega (arith, ints)) ]
 
-pub at_rest : (s : Trail) (ps : List Span) (vs : List Seen) → AllZip (IsSpanSeen s) ps vs → AreAllowed vs (length ps) → IsAtRest (NoOverlap ps) s
-at_rest s ps vs seen allowed = record { decided = λ fixed xs opened. no_overlap xs ps (apart_fixed s ps vs seen fixed xs opened allowed); strong = has_orders s ps vs seen allowed }
+pub at_rest : (s : Trail) (ps : List Span) (vs : List Seen) → AreSeen s ps vs → AreAllowed vs (length ps) → ArePairsSettled s ps vs (length ps) → IsAtRest (NoOverlap ps) s
+at_rest s ps vs are allowed settled = record { decided = λ fixed xs opened. no_overlap xs ps (apart_fixed s ps vs are.seen fixed xs opened allowed); strong = strong_of s ps vs are allowed settled }
 
 -- what fits is a list of spans
 pub are_spans : (first : Domains) (ps : List Span) → IsFittingRule first (NoOverlap ps) → AreSpans first ps

@@ -3,12 +3,13 @@
 //! That one span cannot come before another needs two facts: that it ends at some time or later, and that the other
 //! starts before that time. The time is the least end that there was, so the second fact is loosened as far as the
 //! first allows.
-ghost use Rattle.std.specs.Prelude.{ℤ, List, [], not, ◌≡◌, ◌<◌, ◌≤ℤ◌, ◌<ℤ◌, All, length, true, IsTrue, IfSome, slice_index_or};
+ghost use Rattle.std.specs.Prelude.{ℤ, List, [], ◌++◌, not, ◌≡◌, ◌<◌, ◌≤ℤ◌, ◌<ℤ◌, All, length, true, IsTrue, IfSome, slice_index_or};
 ghost use Rattle.std.specs.List.{list_all};
 ghost use Rattle.cps_model.specs.Scheduling.{IsNoOverlap};
 ghost use Rattle.cps_literal.specs.Truth.{atom_holds};
 ghost use Rattle.cps_literal.specs.declared.atom.Atom.{Atom as AtomOf};
 ghost use Rattle.cps_instance.specs.Parts.{span_runs};
+ghost use Rattle.cps_instance.specs.Tasks.{subjects_of_span, span_subjects};
 ghost use Rattle.cps_p_span.specs.Citing.{Cites};
 ghost use Rattle.cps_p_span.specs.Spans.{start_at, end_at, is_present, IsSmallAtom, IsSpan, AreSpans, IsPair, OrdersAt, ClashesAt};
 
@@ -41,7 +42,8 @@ pub fn cite_start_up_to(
     facts: &mut Vec<Atom>,
 ) -> Result<bool, AllocError>
     requires { IsSpan past.now.first span.now }
-    ensures { result ≡ Ok true → Cites past.now facts.old.items facts.new.items (λ xs. start_at xs span.now ≤ℤ time) }
+    ensures { result ≡ Ok true → Cites past.now (subjects_of_span span.now) facts.old.items facts.new.items
+        (λ xs. start_at xs span.now ≤ℤ time) }
 {
     match start_up_to(span, time) {
         Some(atom) => cite(past, atom, facts),
@@ -57,7 +59,8 @@ pub fn cite_end_from(
     facts: &mut Vec<Atom>,
 ) -> Result<bool, AllocError>
     requires { IsSpan past.now.first span.now }
-    ensures { result ≡ Ok true → Cites past.now facts.old.items facts.new.items (λ xs. time ≤ℤ end_at xs span.now) }
+    ensures { result ≡ Ok true → Cites past.now (subjects_of_span span.now) facts.old.items facts.new.items
+        (λ xs. time ≤ℤ end_at xs span.now) }
 {
     match end_from(span, time) {
         Some(atom) => cite(past, atom, facts),
@@ -84,7 +87,8 @@ pub fn cite_late(
 ) -> Result<bool, AllocError>
     requires late { IsSpan past.now.first late.now }
     requires early { IsSpan past.now.first early.now }
-    ensures { result ≡ Ok true → Cites past.now facts.old.items facts.new.items
+    ensures { result ≡ Ok true → Cites past.now (subjects_of_span late.now ++ subjects_of_span early.now)
+        facts.old.items facts.new.items
         (λ xs. start_at xs early.now <ℤ end_at xs late.now) }
 {
     let end = least_end(past, late);
@@ -108,7 +112,8 @@ pub fn cite_present(
 ) -> Result<bool, AllocError>
     requires one { IsSpan past.now.first one.now }
     requires other { IsSpan past.now.first other.now }
-    ensures { result ≡ Ok true → Cites past.now facts.old.items facts.new.items
+    ensures { result ≡ Ok true → Cites past.now (subjects_of_span one.now ++ subjects_of_span other.now)
+        facts.old.items facts.new.items
         (λ xs. (is_present xs one.now ≡ true) × (is_present xs other.now ≡ true)) }
 {
     if !cite_all(past, one.presence.as_slice(), facts)? {
@@ -126,7 +131,8 @@ fn cite_order(
 ) -> Result<bool, AllocError>
     requires spans { AreSpans past.now.first spans.now }
     requires pair { IsPair (length spans.now) pair }
-    ensures { result ≡ Ok true → Cites past.now facts.old.items facts.new.items (λ xs. OrdersAt xs spans.now pair) }
+    ensures { result ≡ Ok true → Cites past.now (span_subjects spans.now) facts.old.items facts.new.items
+        (λ xs. OrdersAt xs spans.now pair) }
 {
     let before = &spans[pair.before];
     let after = &spans[pair.after];
@@ -145,7 +151,8 @@ pub fn cite_clash(
 ) -> Result<bool, AllocError>
     requires spans { AreSpans past.now.first spans.now }
     requires pair { IsPair (length spans.now) pair }
-    ensures { result ≡ Ok true → Cites past.now facts.old.items facts.new.items (λ xs. ClashesAt xs spans.now pair) }
+    ensures { result ≡ Ok true → Cites past.now (span_subjects spans.now) facts.old.items facts.new.items
+        (λ xs. ClashesAt xs spans.now pair) }
 {
     let before = &spans[pair.before];
     let after = &spans[pair.after];
@@ -164,7 +171,7 @@ pub fn refute_pair(
 ) -> Result<bool, AllocError>
     requires spans { AreSpans past.now.first spans.now }
     requires pair { IsPair (length spans.now) pair }
-    ensures { result ≡ Ok true → Cites past.now facts.old.items facts.new.items
+    ensures { result ≡ Ok true → Cites past.now (span_subjects spans.now) facts.old.items facts.new.items
         (λ xs. IsNoOverlap (span_runs xs spans.now) → ⊥) }
 {
     if !cite_present(past, &spans[pair.before], &spans[pair.after], facts)? {
@@ -183,7 +190,7 @@ fn explain_start(
 ) -> Result<bool, AllocError>
     requires spans { AreSpans past.now.first spans.now }
     requires pair { IsPair (length spans.now) pair }
-    ensures { result ≡ Ok true → Cites past.now facts.old.items facts.new.items
+    ensures { result ≡ Ok true → Cites past.now (span_subjects spans.now) facts.old.items facts.new.items
         (λ xs. IsNoOverlap (span_runs xs spans.now) → atom_holds xs target ≡ true) }
 {
     let time = target.value as i128;
@@ -211,7 +218,7 @@ fn explain_end(
 ) -> Result<bool, AllocError>
     requires spans { AreSpans past.now.first spans.now }
     requires pair { IsPair (length spans.now) pair }
-    ensures { result ≡ Ok true → Cites past.now facts.old.items facts.new.items
+    ensures { result ≡ Ok true → Cites past.now (span_subjects spans.now) facts.old.items facts.new.items
         (λ xs. IsNoOverlap (span_runs xs spans.now) → atom_holds xs target ≡ true) }
 {
     let time = target.value as i128 + spans[pair.before].length.unwrap_or(0) as i128;
@@ -253,7 +260,7 @@ fn explain_absence(
 ) -> Result<bool, AllocError>
     requires spans { AreSpans past.now.first spans.now }
     requires pair { IsPair (length spans.now) pair }
-    ensures { result ≡ Ok true → Cites past.now facts.old.items facts.new.items
+    ensures { result ≡ Ok true → Cites past.now (span_subjects spans.now) facts.old.items facts.new.items
         (λ xs. IsNoOverlap (span_runs xs spans.now) → atom_holds xs target ≡ true) }
 {
     let atoms = spans[pair.before].presence.as_slice();
@@ -283,7 +290,7 @@ pub fn explain_pair(
 ) -> Result<bool, AllocError>
     requires spans { AreSpans past.now.first spans.now }
     requires pair { IsPair (length spans.now) pair }
-    ensures { result ≡ Ok true → Cites past.now [] facts.new.items
+    ensures { result ≡ Ok true → Cites past.now (span_subjects spans.now) [] facts.new.items
         (λ xs. IsNoOverlap (span_runs xs spans.now) → atom_holds xs target ≡ true) }
 {
     facts.clear();

@@ -1,7 +1,8 @@
 //! Facts of an explanation. Each is tested against the past before it is added, so what names it need not be trusted.
-ghost use Rattle.std.specs.Prelude.{ℤ, List, ◌≡◌, ◌<◌, true, false, length, All, IsTrue};
+ghost use Rattle.std.specs.Prelude.{ℤ, List, [], ◌∷◌, ◌≡◌, ◌<◌, ◌↔◌, true, false, length, All, IsTrue};
 ghost use Rattle.std.specs.List.{list_all};
 ghost use Rattle.cps_literal.specs.Truth.{atom_holds};
+ghost use Rattle.cps_instance.specs.Tasks.{atom_subjects};
 ghost use Rattle.cps_trail.specs.Trail.{IsInside};
 ghost use Rattle.cps_p_span.specs.Citing.{Cites};
 ghost use Rattle.cps_p_span.specs.Spans.{IsSmallAtom};
@@ -15,7 +16,7 @@ const FARTHEST: i64 = 0x3fff_ffff_ffff_ffff;
 
 /// Whether a number may stand in a fact.
 pub(crate) fn is_inside(value: i64) -> bool
-    ensures { IsTrue result → IsInside value }
+    ensures { IsTrue result ↔ IsInside value }
 {
     -FARTHEST <= value && value <= FARTHEST
 }
@@ -23,7 +24,8 @@ pub(crate) fn is_inside(value: i64) -> bool
 /// Adds an atom where it was true, and says whether it was.
 pub fn cite(past: &Before, atom: Atom, facts: &mut Vec<Atom>) -> Result<bool, AllocError>
     requires { atom.subject < length past.now.first }
-    ensures { result ≡ Ok true → Cites past.now facts.old.items facts.new.items (λ xs. atom_holds xs atom ≡ true) }
+    ensures { result ≡ Ok true → Cites past.now (atom.subject ∷ []) facts.old.items facts.new.items
+        (λ xs. atom_holds xs atom ≡ true) }
 {
     if !is_inside(atom.value) {
         return Ok(false);
@@ -40,7 +42,7 @@ pub fn cite(past: &Before, atom: Atom, facts: &mut Vec<Atom>) -> Result<bool, Al
 /// Adds each of these atoms, if all were true.
 pub fn cite_all(past: &Before, atoms: &[Atom], facts: &mut Vec<Atom>) -> Result<bool, AllocError>
     requires { All (λ u. u.subject < length past.now.first) atoms.now }
-    ensures { result ≡ Ok true → Cites past.now facts.old.items facts.new.items
+    ensures { result ≡ Ok true → Cites past.now (atom_subjects atoms.now) facts.old.items facts.new.items
         (λ xs. list_all (atom_holds xs) atoms.now ≡ true) }
 {
     for atom in atoms {
@@ -75,7 +77,7 @@ fn cite_unless_denied(
 ) -> Result<bool, AllocError>
     requires subject { atom.subject < length past.now.first }
     requires small { IsSmallAtom atom }
-    ensures { result ≡ Ok true → Cites past.now facts.old.items facts.new.items
+    ensures { result ≡ Ok true → Cites past.now (atom.subject ∷ []) facts.old.items facts.new.items
         (λ xs. atom_holds xs target ≡ false → atom_holds xs atom ≡ true) }
 {
     if is_denied(atom, target) {
@@ -94,7 +96,7 @@ pub fn cite_others(
 ) -> Result<bool, AllocError>
     requires subjects { All (λ u. u.subject < length past.now.first) atoms.now }
     requires small { All IsSmallAtom atoms.now }
-    ensures { result ≡ Ok true → Cites past.now facts.old.items facts.new.items
+    ensures { result ≡ Ok true → Cites past.now (atom_subjects atoms.now) facts.old.items facts.new.items
         (λ xs. atom_holds xs target ≡ false → list_all (atom_holds xs) atoms.now ≡ true) }
 {
     for atom in atoms {

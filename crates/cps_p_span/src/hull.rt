@@ -1,6 +1,6 @@
 //! The ends of what a store leaves to a subject.
-ghost use Rattle.std.specs.Prelude.{◌<◌, length, OnOk};
-ghost use Rattle.cps_p_span.specs.Hulls.{IsHullNow, OffersAtom};
+ghost use Rattle.std.specs.Prelude.{◌<◌, length, OnOk, IsTrue};
+ghost use Rattle.cps_p_span.specs.Hulls.{IsHullNow, IsTrueWithin, OffersAtom};
 
 use crate::facts::is_inside;
 use cps_literal::{Atom, Op};
@@ -27,6 +27,17 @@ pub fn hull_of(store: &Store, subject: u32) -> Hull
     }
 }
 
+/// Whether each value between two ends meets a bound.
+fn is_met(hull: Hull, target: Atom) -> bool
+    ensures { IsTrue result → IsTrueWithin hull target }
+{
+    match target.op {
+        Op::Le => hull.high <= target.value,
+        Op::Ge => target.value <= hull.low,
+        _ => false,
+    }
+}
+
 /// Adds a bound of a subject with these ends, unless it is true already, or too far off to stand in a fact.
 pub fn offer(
     hull: Hull,
@@ -34,15 +45,11 @@ pub fn offer(
     hint: Hint,
     found: &mut Vec<Narrowing>,
 ) -> Result<(), AllocError>
-    ensures { OnOk result (OffersAtom target found.old.items found.new.items) }
+    ensures { OnOk result (OffersAtom hull target found.old.items found.new.items) }
 {
-    let is_true = match target.op {
-        Op::Le => hull.high <= target.value,
-        Op::Ge => target.value <= hull.low,
-        _ => false,
-    };
-    if !is_true && is_inside(target.value) {
-        found.push(Narrowing { target, hint })?;
+    if is_met(hull, target) || !is_inside(target.value) {
+        return Ok(());
     }
+    found.push(Narrowing { target, hint })?;
     Ok(())
 }

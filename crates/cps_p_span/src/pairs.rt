@@ -2,9 +2,11 @@
 //!
 //! Where one cannot end before the other starts, it comes after the other: it starts when the other ends or later, and
 //! the other ends when it starts or sooner. Where neither can come first, they cannot both be present.
-ghost use Rattle.std.specs.Prelude.{◌≡◌, ◌<◌, ◌<ℤ◌, ◌≤ℤ◌, length, slice_index_or, true, false, OnOk, IfOk, IfSome};
+ghost use Rattle.std.specs.Prelude.{◌≡◌, ◌<◌, ◌<ℤ◌, ◌≤ℤ◌, ◌-ℤ◌, length, slice_index_or, true, false, OnOk, IfOk, IfSome};
+ghost use Rattle.cps_trail.specs.Trail.{IsInside};
+ghost use Rattle.cps_p_span.specs.Citing.{KeepsTargets};
 ghost use Rattle.cps_p_span.specs.Hulls.{Proposes};
-ghost use Rattle.cps_p_span.specs.Spans.{start_at, end_at, SaysOfTimes, AreKnown, AddsApart, AddsOrdered, IsPair, LeavesNoOrder, IsAbsent, IsAllowed, AreAllowed, AllowsFirst, no_seen};
+ghost use Rattle.cps_p_span.specs.Spans.{start_at, end_at, lead, SaysOfTimes, KeepsStartFrom, KeepsEndUpTo, AreKnown, AddsApart, AddsOrdered, IsPair, LeavesNoOrder, IsAbsent, IsAllowed, AreAllowed, AllowsFirst, SettlesOrder, SettlesPair, SettlesFirst, SettlesPairs, no_seen};
 
 use crate::edges::{end_up_to, start_from};
 use crate::seen::{Seen, Times};
@@ -56,7 +58,9 @@ pub fn propose(
 
 /// That a span starts at a time or later, unless that is so.
 fn later_start(span: &Span, times: &Times, time: i128) -> Option<Atom>
-    ensures { IfSome result (λ u. SaysOfTimes span.now u (λ xs. time ≤ℤ start_at xs span.now)) }
+    ensures says { IfSome result (λ u. SaysOfTimes span.now u (λ xs. time ≤ℤ start_at xs span.now)) }
+    ensures now { IfSome result (KeepsStartFrom span.now time) }
+    ensures none { result ≡ None → IsInside time → time ≤ℤ times.now.start_low }
 {
     if time <= times.start_low {
         return None;
@@ -66,7 +70,9 @@ fn later_start(span: &Span, times: &Times, time: i128) -> Option<Atom>
 
 /// That a span ends at a time or earlier, unless that is so.
 fn earlier_end(span: &Span, times: &Times, time: i128) -> Option<Atom>
-    ensures { IfSome result (λ u. SaysOfTimes span.now u (λ xs. end_at xs span.now ≤ℤ time)) }
+    ensures says { IfSome result (λ u. SaysOfTimes span.now u (λ xs. end_at xs span.now ≤ℤ time)) }
+    ensures now { IfSome result (KeepsEndUpTo span.now time) }
+    ensures none { result ≡ None → IsInside (time -ℤ lead span.now.length) → times.now.end_high ≤ℤ time }
 {
     if times.end_high <= time {
         return None;
@@ -83,7 +89,8 @@ pub fn follow(
 ) -> Result<(), AllocError>
     requires known { AreKnown spans.now seen.now }
     requires pair { IsPair (length spans.now) pair }
-    ensures { OnOk result (AddsOrdered spans.now seen.now pair found.old.items found.new.items) }
+    ensures given { OnOk result (AddsOrdered spans.now seen.now pair found.old.items found.new.items) }
+    ensures rest { OnOk result (SettlesOrder spans.now seen.now pair found.old.items found.new.items) }
 {
     let before = seen[pair.before].times;
     let after = seen[pair.after].times;
@@ -104,7 +111,8 @@ fn exclude(
     requires known { AreKnown spans.now seen.now }
     requires pair { IsPair (length spans.now) pair }
     requires absent { IsAbsent spans.now seen.now pair.before }
-    ensures { OnOk result (AddsApart spans.now seen.now found.old.items found.new.items) }
+    ensures given { OnOk result (AddsApart spans.now seen.now found.old.items found.new.items) }
+    ensures kept { OnOk result (KeepsTargets found.old.items found.new.items) }
 {
     let atoms = spans[pair.before].presence.as_slice();
     let open = seen[pair.before].presence.last;
@@ -134,6 +142,7 @@ fn clash(
     ensures impossible { result ≡ Ok true → LeavesNoOrder spans.now seen.now }
     ensures allowed { result ≡ Ok false
         → IsAllowed (slice_index_or seen.now pair.before no_seen) (slice_index_or seen.now pair.after no_seen) }
+    ensures kept { OnOk result (KeepsTargets found.old.items found.new.items) }
 {
     let before = seen[pair.before].presence.sure;
     let after = seen[pair.after].presence.sure;
@@ -161,6 +170,7 @@ fn meet(
     ensures impossible { result ≡ Ok true → LeavesNoOrder spans.now seen.now }
     ensures allowed { result ≡ Ok false
         → IsAllowed (slice_index_or seen.now pair.before no_seen) (slice_index_or seen.now pair.after no_seen) }
+    ensures rest { result ≡ Ok false → SettlesPair spans.now seen.now pair found.old.items found.new.items }
 {
     let before = seen[pair.before];
     let after = seen[pair.after];
@@ -191,6 +201,7 @@ fn meet_below(
     ensures given { OnOk result (AddsApart spans.now seen.now found.old.items found.new.items) }
     ensures impossible { IfOk result (λ answer. IfSome answer (λ pair. LeavesNoOrder spans.now seen.now)) }
     ensures allowed { result ≡ Ok None → AllowsFirst seen.now place place }
+    ensures rest { result ≡ Ok None → SettlesFirst spans.now seen.now place place found.old.items found.new.items }
 {
     for other in 0..place {
         let pair = Pair {
@@ -214,6 +225,8 @@ pub fn meet_all(
     ensures given { OnOk result (AddsApart spans.now seen.now found.old.items found.new.items) }
     ensures impossible { IfOk result (λ answer. IfSome answer (λ pair. LeavesNoOrder spans.now seen.now)) }
     ensures allowed { result ≡ Ok None → AreAllowed seen.now (length spans.now) }
+    ensures rest { result ≡ Ok None
+        → SettlesPairs spans.now seen.now (length spans.now) found.old.items found.new.items }
 {
     for place in 0..spans.len() {
         if let Some(pair) = meet_below(spans, seen, place, found)? {

@@ -9,7 +9,7 @@ pub returns : goal.returns
 returns c e =
     let one : c.cite_first.result ≡ Ok true = search rules in
     let same = c.same_atom.ensures c.if-not-same_atom.false in
-    cites_end c.args.along.now c.args.claim.pair c.requires.pair.along c.index-along-pair-2.result c.index-along-pair-3.result c.index-along-pair-2.is c.index-along-pair-3.is c.args.across.now c.args.past.now c.args.facts.now.items c.cite_first.new.facts.items c.cite_start_up_to.new.facts.items c.in-Some.atom c.args.claim.target _ same c.in-Some.ensures
+    cites_end c.args.along.now c.args.claim.pair c.requires.pair.along c.index-along-pair-2.result c.index-along-pair-3.result c.index-along-pair-2.is c.index-along-pair-3.is c.args.across.now c.args.past.now c.args.facts.now.items c.cite_first.new.facts.items c.cite_start_up_to.new.facts.items c.in-Some.atom c.args.claim.target _ same c.in-Some.ensures.says
     (c.cite_first.ensures one) (c.cite_start_up_to.ensures e)
 
 pub cite_start_up_to-requires : goal.cite_start_up_to-requires

@@ -9,7 +9,7 @@ pub returns : goal.returns
 returns c e =
     let one : c.cite_first.result ≡ Ok true = search rules in
     let same = c.same_atom.ensures c.if-not-same_atom.false in
-    cites_start c.args.along.now c.args.claim.pair c.requires.pair.along c.index-along-pair-2.result c.index-along-pair.result c.index-along-pair-2.is c.index-along-pair.is c.args.across.now c.args.past.now c.args.facts.now.items c.cite_first.new.facts.items c.cite_end_from.new.facts.items c.in-Some.atom c.args.claim.target _ same c.in-Some.ensures
+    cites_start c.args.along.now c.args.claim.pair c.requires.pair.along c.index-along-pair-2.result c.index-along-pair.result c.index-along-pair-2.is c.index-along-pair.is c.args.across.now c.args.past.now c.args.facts.now.items c.cite_first.new.facts.items c.cite_end_from.new.facts.items c.in-Some.atom c.args.claim.target _ same c.in-Some.ensures.says
     (c.cite_first.ensures one) (c.cite_end_from.ensures e)
 
 pub cite_end_from-requires : goal.cite_end_from-requires

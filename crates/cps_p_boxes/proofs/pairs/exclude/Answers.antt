@@ -1,9 +1,13 @@
 use Rattle.std.proofs.Common.{Some}
+use Rattle.cps_p_span.proofs.Settling.{proposed}
 use Rattle.cps_p_boxes.proofs.Boxing.{adds_proposed, box_denied}
 use Rattle.cps_p_boxes.proofs.pairs.exclude.Goals as goal
 
-pub returns-in_ok-push : goal.returns-in_ok-push
-returns-in_ok-push c =
+pub returns-in_ok-push-clause-kept : goal.returns-in_ok-push-clause-kept
+returns-in_ok-push-clause-kept c = λ s h. (proposed s (Some c.negate.result) c.args.found.now.items c.push.new.self.items (c.hint.result, c.in_ok-push.ensures.items) h).0
+
+pub returns-in_ok-push-clause-given : goal.returns-in_ok-push-clause-given
+returns-in_ok-push-clause-given c =
     let v = c.args.x.now in
     let w = c.args.y.now in
     adds_proposed v w (Some c.negate.result) c.args.found.now.items c.push.new.self.items

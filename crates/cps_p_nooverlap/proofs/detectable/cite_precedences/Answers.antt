@@ -9,6 +9,7 @@ use Rattle.cps_p_nooverlap.proofs.Claims.{cites_precedences}
 use Rattle.cps_p_span.proofs.Citing.{span_of}
 use Rattle.cps_p_span.proofs.Refusing.{refused}
 use Rattle.cps_p_nooverlap.proofs.detectable.cite_precedences.Goals as goal
+use Rattle.cps_instance.specs.Tasks.{span_subjects}
 
 pub returns-else-not-branch : goal.returns-else-not-branch
 returns-else-not-branch c e =
@@ -24,7 +25,7 @@ returns-else-not-branch c e =
     let runs = rw (to_z-of_z w64 c.args.crowd.to g) at (rw (to_z-of_z w64 c.args.crowd.from f) at (c.cite_runs.ensures e)) in
     cites_precedences c.args.spans.now c.args.crowd.pushed.place aside.place c.index-spans-crowd.result c.index-spans-crowd.is c.args.past.now c.args.crowd.pushed.is_reversed c.args.facts.now.items c.cite_late.new.facts.items c.cite_runs.new.facts.items c.args.marks.now.whole.items c.in-Some.counted aside
     c.args.crowd.from c.args.crowd.to c.args.crowd.end c.args.crowd.pushed.time late reached (rw (to_z-of_z w64 c.args.crowd.end h) at (c.cite_late.ensures one))
-    (subst (λ (ws : List ℕ). Cites c.args.past.now c.cite_late.new.facts.items c.cite_runs.new.facts.items (λ xs. AreRuns Start c.args.crowd.pushed.is_reversed xs c.args.spans.now ws c.args.crowd.from c.args.crowd.to)) c.as_slice-whole.ensures.value runs)
+    (subst (λ (ws : List ℕ). Cites c.args.past.now (span_subjects c.args.spans.now) c.cite_late.new.facts.items c.cite_runs.new.facts.items (λ xs. AreRuns Start c.args.crowd.pushed.is_reversed xs c.args.spans.now ws c.args.crowd.from c.args.crowd.to)) c.as_slice-whole.ensures.value runs)
 
 pub bounds-spans-crowd : goal.bounds-spans-crowd
 bounds-spans-crowd c = c.in-Some.ensures.place

@@ -9,6 +9,7 @@ use Rattle.cps_p_nooverlap.proofs.Claims.{cites_edge}
 use Rattle.cps_p_span.proofs.Citing.{span_of}
 use Rattle.cps_p_span.proofs.Refusing.{refused}
 use Rattle.cps_p_nooverlap.proofs.edge_finding.cite_edge.Goals as goal
+use Rattle.cps_instance.specs.Tasks.{span_subjects}
 
 pub returns-else-not-branch-2 : goal.returns-else-not-branch-2
 returns-else-not-branch-2 c e =
@@ -22,7 +23,7 @@ returns-else-not-branch-2 c e =
     let runs = rw (to_z-of_z w64 c.args.crowd.to g) at (rw (to_z-of_z w64 c.args.crowd.from f) at (c.cite_runs.ensures two)) in
     cites_edge c.args.spans.now c.args.marks.now.whole.items c.args.marks.now.part.items c.args.crowd c.in-Some.counted c.index-spans-crowd.result c.in-Some.ensures c.index-spans-crowd.is c.args.past.now c.args.crowd.pushed.is_reversed
     c.args.facts.now.items c.cite_early.new.facts.items c.cite_runs.new.facts.items c.cite_runs-in-Some.new.facts.items reached (rw (to_z-of_z w64 c.args.crowd.from f) at (c.cite_early.ensures one))
-    (subst (λ (ws : List ℕ). Cites c.args.past.now c.cite_early.new.facts.items c.cite_runs.new.facts.items (λ xs. AreRuns Both c.args.crowd.pushed.is_reversed xs c.args.spans.now ws c.args.crowd.from c.args.crowd.to)) c.as_slice.ensures.value runs)
+    (subst (λ (ws : List ℕ). Cites c.args.past.now (span_subjects c.args.spans.now) c.cite_early.new.facts.items c.cite_runs.new.facts.items (λ xs. AreRuns Both c.args.crowd.pushed.is_reversed xs c.args.spans.now ws c.args.crowd.from c.args.crowd.to)) c.as_slice.ensures.value runs)
     (search rules)
 
 pub bounds-spans-crowd : goal.bounds-spans-crowd

@@ -10,6 +10,7 @@ use Rattle.cps_p_span.proofs.Citing.{cites_as}
 use Rattle.cps_p_nooverlap.proofs.Crowding.{overfull}
 use Rattle.cps_p_span.proofs.Refusing.{refused}
 use Rattle.cps_p_nooverlap.proofs.overload.refute_window.Goals as goal
+use Rattle.cps_instance.specs.Tasks.{span_subjects}
 
 pub cite_runs-requires-clause-each : goal.cite_runs-requires-clause-each
 cite_runs-requires-clause-each c = c.in-Some.ensures.each
@@ -25,7 +26,7 @@ returns-else-not-is_overfull c e =
     let more = c.is_overfull.ensures c.if-not-is_overfull.false in
     let full : w.to <ℤ (w.from +ℤ pos (sum ws)) = omega (arith, ints) in
     let much : 0 < sum ws = omega arith in
-    cites_as c.args.past.now c.args.facts.now.items c.cite_runs.new.facts.items (λ xs. AreRuns Both false xs ps ws w.from w.to) (λ xs. IsNoOverlap (span_runs xs ps) → ⊥)
+    cites_as c.args.past.now (span_subjects ps) c.args.facts.now.items c.cite_runs.new.facts.items (λ xs. AreRuns Both false xs ps ws w.from w.to) (λ xs. IsNoOverlap (span_runs xs ps) → ⊥)
     (λ xs are h. overfull false xs ps ws w.from w.to count.each much full are h) (search rules)
 
 pub returns-then-not-is_overfull : goal.returns-then-not-is_overfull

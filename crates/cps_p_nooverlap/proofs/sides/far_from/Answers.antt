@@ -13,4 +13,4 @@ returns-then-is_reversed c =
     let f : FitsSigned w128 c.opposite.result = search rules in
     let g : FitsSigned w64 c.args.time = search rules in
     subst (λ (b : Bool). IfSome c.start_up_to.result (λ u. SaysOfTimes c.args.span.now u (λ xs. c.args.time ≤ℤ far_at b xs c.args.span.now))) (sym c.if-is_reversed.true)
-    (IfSome-map c.start_up_to.result (λ u h. far_from c.args.span.now u c.args.time c.opposite.result (rw (to_z-of_z w64 c.args.time g) at c.opposite.ensures) h) (rw (to_z-of_z w128 c.opposite.result f) at c.start_up_to.ensures))
+    (IfSome-map c.start_up_to.result (λ u h. far_from c.args.span.now u c.args.time c.opposite.result (rw (to_z-of_z w64 c.args.time g) at c.opposite.ensures) h) (rw (to_z-of_z w128 c.opposite.result f) at c.start_up_to.ensures.says))

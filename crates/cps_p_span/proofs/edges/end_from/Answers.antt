@@ -10,4 +10,4 @@ returns-in_ok-checked_sub-in-Some c =
     let sooner = c.in_ok-checked_sub-in-Some.field-0 in
     let f : FitsSigned w128 c.in_ok-checked_sub-in-Some.field-0 = search rules in
     let k = c.in_ok-checked_sub-in-Some.ensures in
-    IfSome-map c.start_from.result (λ u h. says_end_from p u c.in-Some.far c.args.time c.in_ok-checked_sub-in-Some.field-0 c.in-Some.is (omega (arith, ints)) h) (rw (to_z-of_z w128 c.in_ok-checked_sub-in-Some.field-0 f) at c.start_from.ensures)
+    IfSome-map c.start_from.result (λ u h. says_end_from p u c.in-Some.far c.args.time c.in_ok-checked_sub-in-Some.field-0 c.in-Some.is (omega (arith, ints)) h) (rw (to_z-of_z w128 c.in_ok-checked_sub-in-Some.field-0 f) at c.start_from.ensures.says)

@@ -4,6 +4,7 @@ use Rattle.std.proofs.lemmas.List.{take_all}
 use Rattle.cps_literal.specs.declared.atom.Atom.{Atom}
 use Rattle.cps_literal.specs.declared.atom.Op.TheVariants.{Le}
 use Rattle.cps_p_span.proofs.Citing.{cites_none, cites_more, cites_whole}
+use Rattle.cps_instance.specs.Tasks.{atom_subjects}
 use Rattle.cps_p_span.proofs.Refusing.{refused}
 use Rattle.cps_p_span.proofs.facts.cite_all.Goals as goal
 
@@ -11,7 +12,7 @@ abbrev no_atom : Atom
 no_atom = record { subject = 0; op = Le; value = pos 0 }
 
 pub loop-atom-init : goal.loop-atom-init
-loop-atom-init c = cites_none c.args.past.now c.args.facts.now.items _ (λ xs. refl)
+loop-atom-init c = cites_none c.args.past.now (atom_subjects c.args.atoms.now) c.args.facts.now.items _ (λ xs. refl)
 
 pub loop-atom-preserved : goal.loop-atom-preserved
 loop-atom-preserved c = cites_more c.args.past.now c.args.facts.now.items c.loop-atom.facts.items c.cite.new.facts.items c.args.atoms.now c.loop-atom.atom-index no_atom c.loop-atom-test.true c.loop-atom.invariant (search rules)

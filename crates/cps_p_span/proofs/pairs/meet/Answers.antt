@@ -1,10 +1,12 @@
 -- Of two present spans, one that cannot come first comes after the other.
-use Rattle.std.proofs.Common.{ℕ, ◌<◌, ◌<ℤ◌, inl, inr, get_or, sym, subst, rules, length}
+use Rattle.std.proofs.Common.{ℕ, ◌<◌, ◌<ℤ◌, ◌≤ℤ◌, false, inl, inr, get_or, sym, subst, rules, length, arith}
+use Rattle.std.proofs.lemmas.Int.{ints}
 use Rattle.cps_instance.specs.declared.task.Body.TheVariants.{NoOverlap}
 use Rattle.cps_p_span.specs.declared.pairs.Pair.{Pair}
 use Rattle.cps_p_span.specs.Spans.{Orders, no_seen, IsPair}
 use Rattle.cps_p_span.proofs.Pairing.{comes, swapped_pair}
-use Rattle.cps_p_span.proofs.Refusing.{refused}
+use Rattle.cps_p_span.proofs.Settling.{settled_open, settled_forth, settled_back}
+use Rattle.cps_p_span.proofs.Refusing.{refused, on_ok_of}
 use Rattle.cps_p_span.proofs.pairs.meet.Goals as goal
 use Rattle.cps_p_span.proofs.pairs.meet.Goals.{else-not-forth-via-then-not-forth+else-not-back, else-not-forth-via-else-not-forth}
 
@@ -17,12 +19,12 @@ bounds-seen-pair-2 c = subst (λ (n : ℕ). c.args.pair.after < n) c.requires.kn
 pub returns-in_ok-follow-clause-given : goal.returns-in_ok-follow-clause-given
 returns-in_ok-follow-clause-given c =
     let late : (get_or c.args.seen.now c.args.pair.before no_seen).times.start_high <ℤ (get_or c.args.seen.now c.args.pair.after no_seen).times.end_low = search rules in
-    λ s are. c.in_ok-follow.ensures s are (NoOverlap c.args.spans.now) (comes s c.args.spans.now c.args.seen.now are.spans are.seen c.args.pair c.requires.pair late c.if-before.true c.if-after.true)
+    λ s are. c.in_ok-follow.ensures.given s are (NoOverlap c.args.spans.now) (comes s c.args.spans.now c.args.seen.now are.spans are.seen c.args.pair c.requires.pair late c.if-before.true c.if-after.true)
 
 pub returns-in_ok-follow-2-clause-given : goal.returns-in_ok-follow-2-clause-given
 returns-in_ok-follow-2-clause-given c =
     let late : (get_or c.args.seen.now c.args.pair.after no_seen).times.start_high <ℤ (get_or c.args.seen.now c.args.pair.before no_seen).times.end_low = search rules in
-    λ s are. c.in_ok-follow-2.ensures s are (NoOverlap c.args.spans.now) (subst (λ (q : Pair). Orders (NoOverlap c.args.spans.now) s c.args.spans.now q) (sym c.swapped.ensures)
+    λ s are. c.in_ok-follow-2.ensures.given s are (NoOverlap c.args.spans.now) (subst (λ (q : Pair). Orders (NoOverlap c.args.spans.now) s c.args.spans.now q) (sym c.swapped.ensures)
     (comes s c.args.spans.now c.args.seen.now are.spans are.seen (record { before = c.args.pair.after; after = c.args.pair.before }) (swapped_pair _ c.args.pair c.requires.pair) late c.if-after.true c.if-before.true))
 
 pub returns-in_ok-follow-clause-allowed : goal.returns-in_ok-follow-clause-allowed
@@ -42,6 +44,34 @@ returns-else-not-forth-2-clause-allowed c = λ e a b. elim c.else-not-forth.bran
   | else-not-forth-via-then-not-forth+else-not-back w ↦ inr (search rules)
   | else-not-forth-via-else-not-forth w ↦ inl (search rules)
 ]
+
+pub returns-then-not-back-clause-rest : goal.returns-then-not-back-clause-rest
+returns-then-not-back-clause-rest c e = λ s are h.
+    let forth : (get_or c.args.seen.now c.args.pair.after no_seen).times.start_high <ℤ (get_or c.args.seen.now c.args.pair.before no_seen).times.end_low = search (rules, c.if-not-forth.true) in
+    let back : (get_or c.args.seen.now c.args.pair.before no_seen).times.start_high <ℤ (get_or c.args.seen.now c.args.pair.after no_seen).times.end_low = search (rules, c.if-not-back.true) in
+    (on_ok_of c.clash.result false e c.clash.ensures.kept s h, λ a b d. elim (c.clash.ensures.allowed e a b) [ inl q ↦ absurd (omega (arith, ints)) | inr q ↦ absurd (omega (arith, ints)) ])
+
+pub returns-in_ok-follow-clause-rest : goal.returns-in_ok-follow-clause-rest
+returns-in_ok-follow-clause-rest c e = λ s are h.
+    let late : (get_or c.args.seen.now c.args.pair.before no_seen).times.start_high <ℤ (get_or c.args.seen.now c.args.pair.after no_seen).times.end_low = search rules in
+    let forth : (get_or c.args.seen.now c.args.pair.before no_seen).times.end_low ≤ℤ (get_or c.args.seen.now c.args.pair.after no_seen).times.start_high = elim c.else-not-forth.branch [
+      | else-not-forth-via-then-not-forth+else-not-back w ↦ (let back : (get_or c.args.seen.now c.args.pair.after no_seen).times.end_low ≤ℤ (get_or c.args.seen.now c.args.pair.before no_seen).times.start_high = search rules in absurd (omega (arith, ints)))
+      | else-not-forth-via-else-not-forth w ↦ search rules
+    ] in
+    let r = c.in_ok-follow.ensures.rest s are h in
+    (r.0, settled_forth s c.args.spans.now c.args.seen.now are c.args.pair c.requires.pair forth (r.1 forth))
+
+pub returns-in_ok-follow-2-clause-rest : goal.returns-in_ok-follow-2-clause-rest
+returns-in_ok-follow-2-clause-rest c e = λ s are h.
+    let back : (get_or c.args.seen.now c.args.pair.after no_seen).times.end_low ≤ℤ (get_or c.args.seen.now c.args.pair.before no_seen).times.start_high = search rules in
+    let r = c.in_ok-follow-2.ensures.rest s are h in
+    (r.0, settled_back s c.args.spans.now c.args.seen.now are c.args.pair c.swapped.result c.swapped.ensures c.requires.pair back r.1)
+
+pub returns-else-not-forth-2-clause-rest : goal.returns-else-not-forth-2-clause-rest
+returns-else-not-forth-2-clause-rest c e = λ s are h.
+    let forth : (get_or c.args.seen.now c.args.pair.before no_seen).times.end_low ≤ℤ (get_or c.args.seen.now c.args.pair.after no_seen).times.start_high = search rules in
+    let back : (get_or c.args.seen.now c.args.pair.after no_seen).times.end_low ≤ℤ (get_or c.args.seen.now c.args.pair.before no_seen).times.start_high = search rules in
+    (h, settled_open s c.args.spans.now c.args.seen.now are c.args.pair c.requires.pair forth back)
 
 pub clash-requires-clause-known : goal.clash-requires-clause-known
 clash-requires-clause-known c = c.requires.known

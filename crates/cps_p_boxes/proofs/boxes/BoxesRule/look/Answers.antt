@@ -43,7 +43,8 @@ returns-in-None-clause-rest c e all =
     (subst (λ (ts : List Span). IsCount (length c.as_slice.result.now) (length ts) c.count_of-count.result) c.as_slice-2.ensures c.count_of-count.ensures) in
     subst (λ (ts : List Span). IsAtRest (NoOverlap2d ts c.args.self.now.y.spans) c.args.store.now) c.look.ensures.spans
     (subst (λ (ts : List Span). IsAtRest (NoOverlap2d c.look.new.self.spans ts) c.args.store.now) c.look-2.ensures.spans
-    (boxes_at_rest s c.look.new.self c.look-2.new.self c.in_ok-look.ensures.seen c.in_ok-look-2.ensures.seen c.count_of-count.result count (c.meet_all.ensures.allowed none)))
+    (boxes_at_rest s c.look.new.self c.look-2.new.self c.in_ok-look.ensures.seen c.in_ok-look-2.ensures.seen c.count_of-count.result count (c.meet_all.ensures.allowed none)
+    (c.meet_all.ensures.rest none s c.in_ok-look.ensures.seen c.in_ok-look-2.ensures.seen all).1))
 
 pub returns-in-None-clause-seen : goal.returns-in-None-clause-seen
 returns-in-None-clause-seen c = λ excluded.
