@@ -17,7 +17,7 @@ pub ready_fits : (first : Domains) (t : Task) → All AreIntervals first → IsT
 ready_fits first t sound h within = record {
   subjects = within;
   sound = λ j d l. sound (get_or (subjects_of t) j d) [] (within j d l);
-  enforcement = subst (λ (us : List Atom). All (IsLiteral first) us) (sym h.enforcement) (All-nil (IsLiteral first));
+  enforcement = h.enforcement;
   body = h.body;
 }
 
@@ -25,9 +25,16 @@ ready_fits first t sound h within = record {
 pub plain_by : (t u : Task) → t ≡ u → u.enforcement ≡ [] → ((first : Domains) → IsFittingBody first u.body) → IsPlainTask t
 plain_by t u e none fits = subst (λ (v : Task). IsPlainTask v) (sym e) (record { enforcement = none; body = fits })
 
+-- no atoms are literals
+pub no_literals : (first : Domains) (us : List Atom) → us ≡ [] → All (IsLiteral first) us
+no_literals first us none = subst (λ (vs : List Atom). All (IsLiteral first) vs) (sym none) (All-nil (IsLiteral first))
+
 -- and one of a task that fits these domains
+pub ready_under : (first : Domains) (t u : Task) → t ≡ u → All (IsLiteral first) u.enforcement → IsFittingBody first u.body → IsTaskReady first t
+ready_under first t u e literals fits = subst (λ (v : Task). IsTaskReady first v) (sym e) (record { enforcement = literals; body = fits })
+
 pub ready_by : (first : Domains) (t u : Task) → t ≡ u → u.enforcement ≡ [] → IsFittingBody first u.body → IsTaskReady first t
-ready_by first t u e none fits = subst (λ (v : Task). IsTaskReady first v) (sym e) (record { enforcement = none; body = fits })
+ready_by first t u e none fits = ready_under first t u e (no_literals first u.enforcement none) fits
 
 -- what is among the first values is open where nothing was done yet
 admits_first : (s : Trail) (i : ℕ) (x : ℤ) → s.entries ≡ [] → is_among (domain_at s.first i) x ≡ true → admits s.first s.entries i x ≡ true

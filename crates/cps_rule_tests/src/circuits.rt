@@ -1,8 +1,8 @@
 //! Circuits: what degrees, chains and reachability leave.
 //!
 //! A row is a text of arcs between nodes of one digit, and a text with a sign for each of them: `1` for one that is
-//! taken, `0` for one that is not, and `.` for one that is open. The contract asks of circuits only that they refuse,
-//! so what each rule narrows is seen here; a row's comment says why the other rules do not see the same.
+//! taken, `0` for one that is not, and `.` for one that is open. The contract asks of circuits what degrees give, so what
+//! chains and reachability narrow is seen here; a row's comment says why degrees do not see the same.
 
 ghost use Rattle.std.specs.Prelude.{◌≡◌, IfOk, length};
 ghost use Rattle.cps_rule_tests.specs.Ready.{IsFreshStore, IsTaskReady};
@@ -131,7 +131,7 @@ fn assert_left(rt: &impl Abort, alloc: Global, rows: &[Row]) -> Result<(), Fail>
     Ok(())
 }
 
-static ARCS: [Row; 6] = [
+static ARCS: [Row; 7] = [
     // no other arc leaves 0 or enters 1, so 2 goes to 0, and 1 to 2
     Row {
         arcs: "0>1 1>0 0>2 2>0 1>2 2>1",
@@ -166,6 +166,12 @@ static ARCS: [Row; 6] = [
     Row {
         arcs: "0>1 1>0 2>3 3>2",
         decided: "....",
+        left: "",
+    },
+    // no arc leaves 3
+    Row {
+        arcs: "1>3 2>3 1>1 2>2 1>2 2>1",
+        decided: "......",
         left: "",
     },
 ];

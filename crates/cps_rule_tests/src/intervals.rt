@@ -1,18 +1,20 @@
 //! Intervals: the size takes the start to the end.
 //!
-//! Subject 0 is the start, 1 the end and 2 the size. The contract asks only that an interval refuses, so the table has
-//! each of the six bounds that follow from the others.
+//! Subject 0 is the start, 1 the end and 2 the size. The contract asks for each of the six bounds that follow from the
+//! others, and the table has a row for each; reasons are shown by rows alone.
 
 ghost use Rattle.std.specs.Prelude.{IfOk};
-ghost use Rattle.cps_rule_tests.specs.Ready.{IsPlainTask};
+ghost use Rattle.cps_rule_tests.specs.Ready.{IsFreshStore, IsPlainTask, IsTaskReady};
 
-use crate::runs::{Left, Outcome, assert_row, ends_by, leaves, refuses, trial};
-use crate::stores::{Comparison, Ends};
+use crate::runs::{Left, Outcome, assert_row, ends_by, leaves, refuses, run, trial};
+use crate::spans::literals;
+use crate::stores::{Comparison, Ends, store_of};
 use cps_enforce::Enforced;
 use cps_instance::{Body, Task};
 use cps_literal::Op::{Ge, Le};
 use cps_model::Listed;
 use cps_p_interval::Interval;
+use cps_trail::Store;
 use std::alloc::{AllocError, Global};
 use std::process::Abort;
 use std::test::Fail;
@@ -155,7 +157,7 @@ fn assert_conflicts(rt: &impl Abort, alloc: Global, rows: &[Told]) -> Result<(),
     Ok(())
 }
 
-static CONFLICTS: [Told; 3] = [
+static CONFLICTS: [Told; 4] = [
     // from 50 on for 30 at least it ends at 80 or later, so it need not end by 70: 79 is too early too
     Told {
         ends: [(0, 100), (0, 100), (0, 100)],
@@ -174,9 +176,72 @@ static CONFLICTS: [Told; 3] = [
         decided: &[(0, Le, 8), (2, Le, -2)],
         clause: &[(2, Ge, 0)],
     },
+    // from 5 on it ends at 5 or later, whatever its size is, so it need not end by 3: 4 is too early too
+    Told {
+        ends: [(0, 10), (0, 10), (-5, 4)],
+        decided: &[(0, Ge, 5), (1, Le, 3)],
+        clause: &[(0, Le, 4), (1, Ge, 5)],
+    },
 ];
 
 #[test]
 fn conflicts_ask_no_more_than_is_needed(rt: HostRuntime) -> Result<(), Fail> {
     assert_conflicts(&rt, rt.alloc(), &CONFLICTS)
+}
+
+/// The propagator of an interval that is asked for where subject 3 is 1.
+fn enforced(alloc: Global, store: &Store) -> Result<Enforced<Interval>, AllocError>
+    requires { IsFreshStore store.now }
+    ensures { IfOk result (λ propagator. IsTaskReady store.now.first propagator) }
+{
+    let enforcement = literals(alloc, store, &[3])?;
+    let task = Task {
+        enforcement,
+        body: Body::Interval {
+            start: 0,
+            end: 1,
+            size: 2,
+        },
+    };
+    let propagator = Interval::of(alloc, &task)?;
+    Ok(propagator)
+}
+
+/// What such an interval makes of these ends.
+fn asked_for(alloc: Global, ends: &[Ends]) -> Result<Option<Outcome>, AllocError> {
+    let mut store = store_of(alloc, ends)?;
+    let mut propagator = enforced(alloc, &store)?;
+    run(alloc, &mut propagator, &mut store, &[])
+}
+
+/// The ends of an interval's subjects and of its literal, and what is left of them.
+struct Asked {
+    ends: [Ends; 4],
+    left: &'static [Left],
+}
+
+fn assert_asked(rt: &impl Abort, alloc: Global, rows: &[Asked]) -> Result<(), Fail> {
+    for (place, row) in rows.iter().enumerate() {
+        let found = asked_for(alloc, &row.ends)?;
+        assert_row(rt, place, leaves(found, row.left));
+    }
+    Ok(())
+}
+
+static ASKED: [Asked; 2] = [
+    // it starts at 5 or later, and may not end by 3, since no size is below 0
+    Asked {
+        ends: [(5, 9), (0, 3), (-5, 4), (0, 1)],
+        left: &[(0, 5, 9), (1, 0, 3), (2, -5, 4), (3, 0, 0)],
+    },
+    // from 5 to 5 it has the size 0
+    Asked {
+        ends: [(5, 9), (0, 5), (-5, 4), (0, 1)],
+        left: &[(0, 5, 9), (1, 0, 5), (2, -5, 4), (3, 0, 1)],
+    },
+];
+
+#[test]
+fn one_that_cannot_be_is_not_asked_for(rt: HostRuntime) -> Result<(), Fail> {
+    assert_asked(&rt, rt.alloc(), &ASKED)
 }

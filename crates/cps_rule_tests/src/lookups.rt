@@ -219,6 +219,14 @@ struct Row {
     clause: &'static [Comparison],
 }
 
+/// The first column is 0 or 7, and the second 3 or 4.
+#[test]
+fn columns_of_tables_keep_to_the_values_of_their_rows(rt: HostRuntime) -> Result<(), Fail> {
+    let found = tabled(rt.alloc(), TWO, &[(-5, 9), (-5, 9)], &[])?;
+    assert!(rt; leaves(found, &[(0, 0, 0), (0, 7, 7), (1, 3, 4)]));
+    Ok(())
+}
+
 fn assert_reasons_of_tables(rt: &impl Abort, alloc: Global, rows: &[Row]) -> Result<(), Fail> {
     for (place, row) in rows.iter().enumerate() {
         let found = tabled(alloc, row.rows, &row.ends, row.decided)?;

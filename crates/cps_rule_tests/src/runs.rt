@@ -91,7 +91,7 @@ fn settle<P: Propagator>(
     ensures first { OnOk result (store.new.first ≡ store.old.first) }
 {
     let mut conflict = Vec::new(alloc);
-    match propagator.propagate(7, store, &mut conflict)? {
+    match propagator.propagate(7, store, None, &mut conflict)? {
         Answer::NoConflict => {
             let reason = last_reason(alloc, propagator, store)?;
             Ok((true, reason))
@@ -109,7 +109,7 @@ fn is_at_rest<P: Propagator>(
     requires { IsFitting store.old.first (P.task propagator.old) }
 {
     let count = store.entries().len();
-    match propagator.propagate(7, store, &mut Vec::new(alloc))? {
+    match propagator.propagate(7, store, None, &mut Vec::new(alloc))? {
         Answer::NoConflict => Ok(store.entries().len() == count),
         Answer::Conflict => Ok(false),
     }

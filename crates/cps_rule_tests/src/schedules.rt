@@ -1,7 +1,7 @@
 //! Spans that do not overlap, in pairs and in sets.
 //!
-//! A table for each rule on sets (detectable precedences, not-first and not-last, edge finding), since the contract
-//! asks only for what pairs give. A row's comment says which spans crowd which window.
+//! A table for what pairs give, which the contract asks for, and one for each rule on sets (detectable precedences,
+//! not-first and not-last, edge finding), which it does not. A row's comment says which spans crowd which window.
 
 ghost use Rattle.std.specs.Prelude.{IfOk};
 ghost use Rattle.cps_rule_tests.specs.Ready.{IsFreshStore, IsTaskReady};
@@ -63,6 +63,34 @@ fn assert_left(rt: &impl Abort, alloc: Global, rows: &[Row]) -> Result<(), Fail>
         assert_row(rt, place, leaves(found, row.left));
     }
     Ok(())
+}
+
+const TWO: [Shape; 2] = [Fixed(0, 5), Fixed(1, 3)];
+
+static PAIRS: [Row; 3] = [
+    // the second ends at 6 or later, and the first starts by 4: so it starts at 5 or later
+    Row {
+        shapes: &TWO,
+        ends: &[(0, 4), (3, 20)],
+        left: &[(0, 0, 4), (1, 5, 20)],
+    },
+    // it ends at 12 or later, and the first starts by 10: so the first ends by 12
+    Row {
+        shapes: &TWO,
+        ends: &[(0, 10), (9, 12)],
+        left: &[(0, 0, 7), (1, 9, 12)],
+    },
+    // so does one whose end is a subject of its own, which ends by 20
+    Row {
+        shapes: &[Varying(0, 1), Fixed(2, 3)],
+        ends: &[(0, 4), (5, 30), (3, 20)],
+        left: &[(0, 0, 4), (1, 5, 20), (2, 5, 20)],
+    },
+];
+
+#[test]
+fn one_comes_after_another_that_it_cannot_precede(rt: HostRuntime) -> Result<(), Fail> {
+    assert_left(&rt, rt.alloc(), &PAIRS)
 }
 
 const THREE: [Shape; 3] = [Fixed(0, 11), Fixed(1, 10), Fixed(2, 5)];
