@@ -22,8 +22,8 @@ abbrev pub guidance_of : Branching → Guidance
 guidance_of (in_order plan) = Steered plan
 guidance_of (by_activity b) = Hinted b.hints
 
--- A choice of one in order goes by its strategies and then its variables in order. One by activity takes the most active
--- of the variables that are not fixed, at the value of its hint.
+-- A choice of one in order goes by its strategies and then its variables in order. One by activity takes the most
+-- active of the variables that are not fixed, at the value of its hint.
 abbrev pub ChoosesAs : Branching → Trail → Option Atom → Type 0
 ChoosesAs (in_order plan) s choice = ChoosesSteered plan.strategies plan.variables s choice
 ChoosesAs (by_activity b) s choice = (length b.activities ≡ length b.hints)

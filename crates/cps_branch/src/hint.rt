@@ -7,20 +7,18 @@ ghost use Rattle.cps_branch.specs.Strategies.{Admits};
 ghost use Rattle.cps_branch.specs.Hints.{hinted_value, hinted_in, hint_for, TakesHinted};
 
 use crate::scan::take_least;
+use cps_domain::DOMAIN_LIMIT;
 use cps_literal::{Atom, Op};
 use cps_model::{Hint, variable_of};
 use cps_trail::Store;
 use std::alloc::{AllocError, Global};
-
-/// No value of a domain has this magnitude.
-const LIMIT: u64 = 1 << 62;
 
 /// The value that a reference with a value gives its variable: the opposite if the reference is below 0. `None` if no
 /// domain can have it.
 fn hinted_value(reference: i32, value: i64) -> Option<i64>
     ensures { result ≡ hinted_value reference value }
 {
-    if value.unsigned_abs() >= LIMIT {
+    if value.unsigned_abs() > DOMAIN_LIMIT.unsigned_abs() {
         return None;
     }
     if reference >= 0 {

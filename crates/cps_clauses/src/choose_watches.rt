@@ -112,8 +112,8 @@ pub(crate) fn choose_watches(
     propagate_unit(store, number, &atoms, two.place)
 }
 
-/// Propagates a clause of at most one atom: makes the atom true, and answers whether it is false. Without an atom nothing
-/// is done: the clause was dropped, or the base answers it as a conflict before it reads any clause.
+/// Propagates a clause of at most one atom: makes the atom true, and returns whether it is false. Without an atom
+/// nothing is done: the clause was dropped, or the base answers it as a conflict before it reads any clause.
 fn propagate_short(store: &mut Store, number: u32, atoms: &Literals<'_>) -> Result<bool, AllocError>
     requires fits { Fits store.old.first atoms.now }
     requires short { length atoms.now < 2 }

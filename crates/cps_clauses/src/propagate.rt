@@ -5,7 +5,8 @@
 //! of an earlier level than the present one is among those not seen yet, and made a watched atom false, every clause is
 //! looked at whole: its watches are to be right at the end of each level, and what that entry implies belongs to an
 //! earlier level. In a search this does not come up: it decides only where clauses are at rest, so where they last came
-//! to rest is never before the end of the level below the present one. It serves callers who decide without propagating.
+//! to rest is never before the end of the level below the present one. It serves callers who decide before they
+//! propagate.
 
 ghost use Rattle.std.specs.Prelude.{ℕ, ◌+◌, ◌≡◌, ◌<◌, ◌≤◌, true, false, None, max, List, length, take, OnOk, IfOk};
 ghost use Rattle.std.specs.List.{All};
@@ -51,7 +52,7 @@ fn wakes_some(store: &Store, watching: &Watching, from: usize, to: usize) -> boo
     false
 }
 
-/// The number of the first clause that is to be looked at whole: the first that was not settled yet, or 0 where an
+/// The number of the first clause that must be looked at whole: the first that was not settled yet, or 0 where an
 /// entry of an earlier level made a watched atom false.
 fn first_looked(store: &Store, watching: &Watching, progress: Progress, below: usize) -> usize
     requires below { below ≤ length store.now.entries }

@@ -39,6 +39,7 @@ use Rattle.cps_search.specs.Shelves.{base_with, in_force_on}
 use Rattle.cps_search.specs.Giving.{ByAll, OrDecided, AreGiven}
 use Rattle.cps_search.specs.Searches.{Search, HoldsOver, IsFalsifiable, IsFound, IsHonestJournal, IsSatisfiable, IsSoundSearch, IsWorthy, below_bound}
 use Rattle.cps_search.specs.Growing.{GrewBy, grown}
+use Rattle.cps_search.specs.Resting.{no_recall}
 use Rattle.cps_search.proofs.AssumptionOrder.{first-bottom}
 use Rattle.cps_search.proofs.FixedSolutions.{fits_below}
 use Rattle.cps_search.proofs.TaskNumbers.{few_tasks}
@@ -250,6 +251,7 @@ module _ (s : Search) (q : Problem) (sum : DefinedSum) (subject : ℕ) (d : Defi
     quiet = IsQuiet-new_subject (in_force_on s.base) s.store (record s.store { first = q.domains }) d.added s.store.level (all_held (Fits s.store.first) s.base.clauses s.base.dropped (λ i held. h.subjects i [] held.within)) (ap (λ (ds : Domains). record s.store { first = ds }) firsts) h.quiet;
     rested = record {
       tasks_rest = bottom;
+      recalls = tt;
       within = h.rested.within;
       clauses_rest = subst (λ (ds : Domains). IsBaseInStep (base_with s.base s.rested.watched) ds (take s.rested.clauses s.store.entries)) (sym firsts)
           (in_step_new s.store.first d.added (base_with s.base s.rested.watched) (take s.rested.clauses s.store.entries) h.subjects h.rested.clauses_rest);
@@ -270,12 +272,12 @@ sound_grew s t sum subject h j is sound bottom = subst IsSoundSearch (sym h.is) 
 
 -- the fields of a search after the sum was defined in its instance, its store and its tasks
 pub grown_is : (s : Search) (q : Problem) (sum : DefinedSum) (subject : ℕ) (domain : Intervals) (trail : Trail) (tasks : List Task) → Defines s.instance q sum subject → IsSoundSearch s → domain ≡ domain_at q.domains subject → trail ≡ record s.store { first = s.store.first ++ domain ∷ [] }
-    → tasks ≡ s.tasks ++ sum_task subject sum ∷ [] → record s { instance = q; store = trail; tasks = tasks; rested = record s.rested { tasks = None }; phase = Stepping } ≡ grown s q (sum_task subject sum)
+    → tasks ≡ s.tasks ++ sum_task subject sum ∷ [] → record s { instance = q; store = trail; tasks = tasks; rested = record s.rested { tasks = None; recall = no_recall }; phase = Stepping } ≡ grown s q (sum_task subject sum)
 grown_is s q sum subject domain trail tasks d h is t e =
     let there : domain ≡ d.added = is ∙ ap (λ (n : ℕ). first_of q.domains n) d.subject_is ∙ ap (λ (ds : Domains). first_of ds (length s.instance.domains)) d.domains ∙ at_end s.instance.domains d.added in
     let firsts : s.store.first ++ domain ∷ [] ≡ q.domains = ap (λ (ds : Domains). ds ++ domain ∷ []) h.domains ∙ ap (λ (ps : Intervals). s.instance.domains ++ ps ∷ []) there ∙ sym d.domains in
-    ap (λ (x : Trail). record s { instance = q; store = x; tasks = tasks; rested = record s.rested { tasks = None }; phase = Stepping }) (t ∙ ap (λ (ds : Domains). record s.store { first = ds }) firsts)
-    ∙ ap (λ (ts : List Task). record s { instance = q; store = record s.store { first = q.domains }; tasks = ts; rested = record s.rested { tasks = None }; phase = Stepping }) e
+    ap (λ (x : Trail). record s { instance = q; store = x; tasks = tasks; rested = record s.rested { tasks = None; recall = no_recall }; phase = Stepping }) (t ∙ ap (λ (ds : Domains). record s.store { first = ds }) firsts)
+    ∙ ap (λ (ts : List Task). record s { instance = q; store = record s.store { first = q.domains }; tasks = ts; rested = record s.rested { tasks = None; recall = no_recall }; phase = Stepping }) e
   where
     at_end : (ds : Domains) (ps : Intervals) → get_or (ds ++ ps ∷ []) (length ds) [] ≡ ps
     at_end [] ps = refl

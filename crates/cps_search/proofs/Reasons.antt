@@ -10,6 +10,8 @@ use Rattle.cps_trail.specs.declared.note.Note.TheVariants as notes
 use Rattle.cps_trail.specs.Trail.{Domains, Entry, Trail, Reason, Because, Later, Explains, IsAdmitted, IsWithin}
 use Rattle.cps_trail.specs.Adds.{Follows}
 use Rattle.cps_trail.specs.Notes.{IsReason}
+use Rattle.cps_instance.specs.Tasks.{subjects_of}
+use Rattle.cps_propagate.specs.Reasons.{SpeaksOf}
 use Rattle.cps_port.specs.Order.{IsBelow}
 use Rattle.cps_conflict.specs.Conflicts.{AreTrueNotes, AreTrueReasons, Premises, reason_holds}
 use Rattle.cps_conflict.specs.Behind.{ComesOfConflict}
@@ -89,6 +91,7 @@ module _ (tasks : List Task) (clauses : List (List Atom)) (s t : Trail) (first :
       named = record { a = h.named.a; b = h.named.b; is = λ d. reason_same k d (Later (notes.Task h.number h.named.a h.named.b)) l (h.named.is d) };
       within = h.within;
       given = λ d. made_same _ k c l (h.given d);
+      speaks = λ d e. subst (λ (x : Entry). SpeaksOf (x.atom.subject ∷ subjects_of (get_or tasks h.number d)) c) (entry_same k e l) (h.speaks d e);
     })
     | inr h ↦ inr (record {
       number = h.number;

@@ -17,6 +17,7 @@ use Rattle.cps_clauses.proofs.ForgottenClauses.{all_blanked, fewer_in_force, for
 use Rattle.cps_search.specs.Searches.{Search, HoldsOver, IsItemAbove, IsSoundSearch, IsWorthy, learnt_count}
 use Rattle.cps_search.specs.Shelves.{Shelf, DropsHalf, ForgetsWhenDue, IsForgettingDue, IsSoundShelf, bare_base, in_force_on, shelf_of}
 use Rattle.cps_search.proofs.DroppedClauses.{drops_due, given_left, learnt_count-drops, learnt_count-standing}
+use Rattle.cps_propagate.specs.Recalling.{Recall}
 use Rattle.cps_search.specs.Resting.{IsResting}
 use Rattle.cps_search.proofs.SearchInvariants.{IsLeft}
 use Rattle.cps_search.proofs.TasksAtRest.{resting_dropped}
@@ -123,8 +124,8 @@ pub forgotten_quiet : (b c : Base) (s : Trail) (keep count below : ℕ) → IsSo
 forgotten_quiet b c s keep count below sound h quiet =
     subst (λ (x : Base). IsQuiet (in_force_of x) s below) (sym h.is) (quiet_forgotten b h.which s below sound (places_of b s keep h.which h.forgets) quiet)
 
-pub forgotten_rested : (tasks : List Task) (b c : Base) (s : Trail) (keep count : ℕ) (rested : Option ℕ) (from : ℕ) → IsSoundBase b → HasForgotten b c s keep count → IsResting tasks b s rested from → IsResting tasks c s rested from
-forgotten_rested tasks b c s keep count rested from sound h rests = resting_dropped tasks b c s keep h.which rested from sound h.forgets h.is rests
+pub forgotten_rested : (tasks : List Task) (recall : Recall) (b c : Base) (s : Trail) (keep count : ℕ) (rested : Option ℕ) (from : ℕ) → IsSoundBase b → HasForgotten b c s keep count → IsResting tasks recall b s rested from → IsResting tasks recall c s rested from
+forgotten_rested tasks recall b c s keep count rested from sound h rests = resting_dropped tasks recall b c s keep h.which rested from sound h.forgets h.is rests
 
 pub forgotten_long : (b c : Base) (s : Trail) (keep count : ℕ) → IsSoundBase b → HasForgotten b c s keep count → length c.clauses ≡ length b.clauses
 forgotten_long b c s keep count sound h = ap (λ (x : Base). length x.clauses) h.is ∙ emptied_long b s keep h.which sound h.forgets

@@ -14,6 +14,7 @@ use Rattle.cps_conflict.specs.Conflicts.{AreTrueReasons}
 use Rattle.cps_conflict.specs.Leading.{AreBehind, IsFetched}
 use Rattle.cps_search.specs.declared.end.Phase.TheVariants.{Stepping}
 use Rattle.cps_search.specs.Giving.{IsReasonOfOne}
+use Rattle.cps_search.specs.Resting.{no_recall}
 use Rattle.cps_search.specs.Searches.{Search}
 
 -- a search over another problem, of which the domains are the store's first ones, with one more task; the tasks were
@@ -23,7 +24,7 @@ grown s p task = record s {
   instance = p;
   store = record s.store { first = p.domains };
   tasks = s.tasks ++ task ∷ [];
-  rested = record s.rested { tasks = None };
+  rested = record s.rested { tasks = None; recall = no_recall };
   phase = Stepping;
 }
 

@@ -1,13 +1,18 @@
 -- What contracts see of a searcher.
 use Rattle.std.specs.Prelude.{false}
 use Rattle.cps_search.specs.declared.searcher.Searcher.TheInside.{Inside}
-use Rattle.cps_search.specs.Resting.{Rest}
+use Rattle.cps_search.specs.Resting.{Rest, recalled}
 use Rattle.cps_search.specs.Searches.{Search}
 use Rattle.cps_search.specs.Shelves.{shelf_of}
 
 -- where a searcher's inference came to rest
 abbrev pub rest_in : {P : Type 0} → Inside P → Rest
-rest_in {P} s = record { tasks = s.rested.tasks; clauses = s.rested.clauses; watched = s.clauses.watched }
+rest_in {P} s = record {
+  tasks = s.rested.tasks;
+  recall = recalled s.rested.tasks s.engine.recall;
+  clauses = s.rested.clauses;
+  watched = s.clauses.watched;
+}
 
 -- the search that a searcher stands for, as long as no allocation failed
 abbrev pub search_of : {P : Type 0} → Inside P → Search

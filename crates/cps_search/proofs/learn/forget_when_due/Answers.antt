@@ -15,7 +15,7 @@ pub returns-clause-quiet : goal.returns-clause-quiet
 returns-clause-quiet c = λ below quiet. forgotten_quiet c.args.base.now c.forget.new.self c.args.store.now c.in-Ok.keep _ below c.journal.ensures.sound c.in_ok-forget.ensures.forgets quiet
 
 pub returns-clause-rested : goal.returns-clause-rested
-returns-clause-rested c = λ tasks rested from rests. forgotten_rested tasks c.args.base.now c.forget.new.self c.args.store.now c.in-Ok.keep _ rested from c.journal.ensures.sound c.in_ok-forget.ensures.forgets rests
+returns-clause-rested c = λ tasks recall rested from rests. forgotten_rested tasks recall c.args.base.now c.forget.new.self c.args.store.now c.in-Ok.keep _ rested from c.journal.ensures.sound c.in_ok-forget.ensures.forgets rests
 
 pub returns-clause-count : goal.returns-clause-count
 returns-clause-count c = forgotten_long c.args.base.now c.forget.new.self c.args.store.now c.in-Ok.keep _ c.journal.ensures.sound c.in_ok-forget.ensures.forgets

@@ -16,8 +16,8 @@ pub returns-clause-still_rested : goal.returns-clause-still_rested
 returns-clause-still_rested c =
     let l = c.args.learnt in
     on_ok_weaker c.add.result
-    (λ adds tasks rests. resting_added tasks c.forget_when_due.new.base c.add.new.self c.go_back.new.store c.go_back.new.rested.tasks c.go_back.new.rested.clauses l.clause c.args.below Learnt c.in_ok-forget_when_due.ensures.sound.sizes adds
-    (c.in_ok-forget_when_due.ensures.rested tasks c.go_back.new.rested.tasks c.go_back.new.rested.clauses rests)) c.add.ensures.adds
+    (λ adds tasks recall rests. resting_added tasks recall c.forget_when_due.new.base c.add.new.self c.go_back.new.store c.go_back.new.rested.tasks c.go_back.new.rested.clauses l.clause c.args.below Learnt c.in_ok-forget_when_due.ensures.sound.sizes adds
+    (c.in_ok-forget_when_due.ensures.rested tasks recall c.go_back.new.rested.tasks c.go_back.new.rested.clauses rests)) c.add.ensures.adds
 
 pub returns-clause-quiet : goal.returns-clause-quiet
 returns-clause-quiet c =

@@ -49,7 +49,7 @@ returns-clause-sound g c =
     let sound : IsSoundSearch s = subst (λ (x : Search). IsSoundSearch x) (sym c.self.view_is) c.requires.sound in
     let n = c.analyse.new in
     let e = c.analyse.ensures in
-    ok_if c.analyse.result _ (sound_went_back s n.store n.rested.tasks n.rested.clauses e.back.0 sound e.back.1 e.rested)
+    ok_if c.analyse.result _ (sound_went_back s n.store c.self.inside.engine.recall n.rested.tasks n.rested.clauses e.back.0 refl sound e.back.1 e.rested)
 
 pub returns-clause-taught : goal.returns-clause-taught
 returns-clause-taught g c =
@@ -61,7 +61,7 @@ returns-clause-taught g c =
     subst (λ (x : Search). IfOk c.analyse.result (λ o. IfSome o (λ l. IsAnalysed x n.store l.clause l.assert l.back_level))) c.self.view_is
     (each_lesson c.analyse.result (λ l. IsTaught (IsReasonOfOne s.tasks s.base.clauses n.store) n.store c.args.conflict.now l.clause l.assert l.back_level) (λ l. All (IsFalseNow s.store) l.clause) (λ l. IsNewTo s.store l.clause) (λ _. Any (NotFalseAtBottom s.store) c.args.conflict.now)
     (λ l. IsAnalysed s n.store l.clause l.assert l.back_level)
-    (λ l. analysed s n.store n.rested.tasks n.rested.clauses e.back.0 c.args.conflict.now sound e.back.1 e.rested e.sound_before e.sound conflict e.level l.clause l.assert l.back_level) e.taught e.before e.new e.open_at_bottom)
+    (λ l. analysed s n.store c.self.inside.engine.recall n.rested.tasks n.rested.clauses e.back.0 c.args.conflict.now refl sound e.back.1 e.rested e.sound_before e.sound conflict e.level l.clause l.assert l.back_level) e.taught e.before e.new e.open_at_bottom)
 
 pub returns-clause-none : goal.returns-clause-none
 returns-clause-none g c =
@@ -72,7 +72,7 @@ returns-clause-none g c =
     let e = c.analyse.ensures in
     subst (λ (x : Search). IfOk c.analyse.result (λ o. IsNone o → NoFreeBelow x.instance.model x.z)) c.self.view_is
     (if_ok_weaker c.analyse.result _ _
-    (λ o bottom none. none_left s n.store n.rested.tasks n.rested.clauses e.back.0 c.args.conflict.now sound e.back.1 e.rested e.sound_before e.sound conflict (bottom none) (given_false s.tasks (in_force_on s.base) s.store c.args.conflict.now conflict).1 e.conflict) e.none)
+    (λ o bottom none. none_left s n.store c.self.inside.engine.recall n.rested.tasks n.rested.clauses e.back.0 c.args.conflict.now refl sound e.back.1 e.rested e.sound_before e.sound conflict (bottom none) (given_false s.tasks (in_force_on s.base) s.store c.args.conflict.now conflict).1 e.conflict) e.none)
 
 pub returns-clause-bottom : goal.returns-clause-bottom
 returns-clause-bottom g c =
@@ -85,5 +85,5 @@ pub returns-clause-is : goal.returns-clause-is
 returns-clause-is g c =
     let s = search_of c.self.inside in
     let n = c.analyse.new in
-    let rest = rest_at s n.rested.tasks n.rested.clauses in
+    let rest = rest_at s c.self.inside.engine.recall n.rested.tasks n.rested.clauses in
     ok_if c.analyse.result _ (subst (λ (x : Search). moved s n.store rest ≡ moved x n.store rest) c.self.view_is refl)

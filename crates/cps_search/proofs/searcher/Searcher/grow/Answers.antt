@@ -11,6 +11,7 @@ use Rattle.cps_trail.specs.Trail.{IsSoundTrail}
 use Rattle.cps_propagate.specs.Agenda.{Agenda}
 use Rattle.cps_search.specs.declared.end.Phase.TheVariants.{Stepping}
 use Rattle.cps_search.specs.Growing.{GrewBy}
+use Rattle.cps_search.specs.Resting.{no_recall}
 use Rattle.cps_search.specs.Searches.{Search, IsSoundSearch}
 use Rattle.cps_search.specs.Searching.{search_of}
 use Rattle.cps_search.proofs.GrownInstances.{few_and_one, grown_is, sound_grew}
@@ -45,7 +46,7 @@ returns-clause-grew g c =
     let defines : Defines s.instance c.define.new.self sum subject = subst (λ (x : ℤ). Defines s.instance c.define.new.self (record { terms = c.args.terms.now; offset = x }) subject) same c.in_ok-subject.ensures.ok in
     let tasks : c.add_sum.new.self.tasks ≡ s.tasks ++ sum_task subject sum ∷ [] =
     ap (λ (e : Agenda). e.tasks) c.in_ok-add_sum.ensures.adds ∙ ap (λ (x : ℤ). s.tasks ++ sum_task subject (record { terms = c.args.terms.now; offset = x }) ∷ []) same in
-    let t : Search = record s { instance = c.define.new.self; store = c.add.new.self; tasks = c.add_sum.new.self.tasks; rested = record s.rested { tasks = None }; phase = Stepping } in
+    let t : Search = record s { instance = c.define.new.self; store = c.add.new.self; tasks = c.add_sum.new.self.tasks; rested = record s.rested { tasks = None; recall = no_recall }; phase = Stepping } in
     let grew : GrewBy s t sum subject = record {
       defines = defines;
       is = grown_is s c.define.new.self sum subject (intervals c.in_ok-domain.domain) c.add.new.self c.add_sum.new.self.tasks defines sound c.in_ok-domain.ensures c.in_ok-add.ensures.adds tasks;

@@ -12,7 +12,7 @@ use Rattle.cps_port.specs.Incumbents.{IsIncumbent}
 use Rattle.cps_search.specs.Searches.{Search, IsNewClause, IsSoundSearch}
 use Rattle.cps_search.specs.Lessons.{GoesBack}
 use Rattle.cps_search.specs.Moves.{moved, with_learnt}
-use Rattle.cps_search.specs.Resting.{Rest}
+use Rattle.cps_search.specs.Resting.{Rest, recalled}
 use Rattle.cps_search.specs.Shelves.{Learns, in_force_on, shelf_of}
 use Rattle.cps_search.specs.Turns.{IsPutOnBoard, IsShort}
 use Rattle.cps_search.specs.Searching.{search_of}
@@ -45,13 +45,13 @@ returns-clause-sound g c =
     let left : IfSome s.budget (λ budget. s.tally < budget) = subst (λ (x : Search). IfSome x.budget (λ budget. x.tally < budget)) (sym c.self.view_is) c.requires.budget in
     let n = c.learn_clause.new in
     let k = c.in_ok-learn_clause.ensures in
-    sound_kept s n.store n.rested.tasks n.rested.clauses c.args.learnt.back_level n.base c.args.learnt.clause sound k.back k.rested k.still_rested new fits k.learns k.quiet left
+    sound_kept s n.store c.self.inside.engine.recall n.rested.tasks n.rested.clauses c.args.learnt.back_level n.base c.args.learnt.clause refl sound k.back k.rested k.still_rested new fits k.learns k.quiet left
 
 pub returns-clause-is : goal.returns-clause-is
 returns-clause-is g c =
     let s = search_of c.self.inside in
     let n = c.learn_clause.new in
-    let rest : Rest = record { tasks = n.rested.tasks; clauses = n.rested.clauses; watched = n.base.watched } in
+    let rest : Rest = record { tasks = n.rested.tasks; recall = recalled n.rested.tasks c.self.inside.engine.recall; clauses = n.rested.clauses; watched = n.base.watched } in
     subst (λ (x : Search). with_learnt (moved s n.store rest) (shelf_of n.base) ≡ with_learnt (moved x n.store rest) (shelf_of n.base)) c.self.view_is refl
 
 pub returns-clause-learns : goal.returns-clause-learns
