@@ -8,7 +8,6 @@ use Rattle.cps_literal.specs.declared.atom.Truth.{Truth}
 use Rattle.cps_literal.specs.declared.atom.Truth.TheVariants.{No, Undecided, Yes}
 use Rattle.cps_trail.specs.Trail.{IsFalseNow, IsTrueNow, Trail}
 use Rattle.cps_trail.proofs.Falls.{bool_cases}
-use Rattle.cps_branch.specs.Choice.{IsUndecided}
 use Rattle.cps_reform.specs.declared.held.Held.{Held}
 
 earlier_or_last : (i n : ℕ) → i < n + 1 → (i < n) ⊎ (i ≡ n)
@@ -45,20 +44,9 @@ yes-not-no h = cc h
 undecided-not-no : Undecided ≡ No → ⊥
 undecided-not-no h = cc h
 
-undecided-not-yes : Undecided ≡ Yes → ⊥
-undecided-not-yes h = cc h
-
 -- what is true or undecided is not false
 pub not-no : (t : Truth) → (t ≡ Yes) ⊎ (t ≡ Undecided) → t ≡ No → ⊥
 not-no t h falls = elim h [
   | inl holds ↦ yes-not-no (sym holds ∙ falls)
   | inr open_now ↦ undecided-not-no (sym open_now ∙ falls)
 ]
-
--- an atom is undecided where it is neither true nor false
-pub left-open : (s : Trail) (a u : Atom) (t : Truth) → a ≡ u → u.subject < length s.first → t ≡ Undecided → (t ≡ Yes) ↔ IsTrueNow s a → (t ≡ No) ↔ IsFalseNow s a → IsUndecided s u
-left-open s a u t same inside is true_where false_where = record {
-  subject = inside;
-  not_true = λ holds. undecided-not-yes (sym is ∙ true_where.1 (subst (λ (v : Atom). IsTrueNow s v) (sym same) holds));
-  not_false = λ falls. undecided-not-no (sym is ∙ false_where.1 (subst (λ (v : Atom). IsFalseNow s v) (sym same) falls));
-}

@@ -1,14 +1,13 @@
 //! Assumptions: that the subject of each term with a weight above 0 stays at its bound.
 
 ghost use Rattle.std.specs.Prelude.{◌↔◌, ◌<◌, ◌≤◌, length, All, IfSome, IsNone, IsTrue};
-ghost use Rattle.cps_trail.specs.Trail.{IsFalseNow};
+ghost use Rattle.cps_trail.specs.Trail.{IsFalseNow, IsTrueNow};
 ghost use Rattle.cps_branch.specs.Choice.{IsUndecided};
 ghost use Rattle.cps_reform.specs.Marks.{assumed};
 ghost use Rattle.cps_core_guided.specs.Assuming.{AreAssumed, IsFailed, IsFirstOpenTerm, NoTermFails};
 ghost use Rattle.cps_core_guided.specs.Reforming.{most_sums};
 
-use cps_literal::Truth;
-use cps_reform::{Held, assumption};
+use cps_reform::Held;
 use cps_trail::Store;
 
 /// The most sums that are defined for cores; after them no term is assumed any more: the model's assumptions are
@@ -22,18 +21,28 @@ fn assumes_terms(sums: u32) -> bool
     sums < MOST_SUMS
 }
 
+/// Whether a term's assumption is true. No atom is made, since each decision asks each term.
+fn stays(store: &Store, term: &Held) -> bool
+    requires { term.now.subject < length store.now.first }
+    ensures { IsTrue result ↔ IsTrueNow store.now (assumed term.now) }
+{
+    store.domain(term.subject).max() <= term.bound
+}
+
+/// Whether a term's assumption is false.
+fn is_past(store: &Store, term: &Held) -> bool
+    requires { term.now.subject < length store.now.first }
+    ensures { IsTrue result ↔ IsFalseNow store.now (assumed term.now) }
+{
+    term.bound < store.domain(term.subject).min()
+}
+
 /// Whether a term has a weight above 0 and its assumption is false.
 fn fails(store: &Store, term: &Held) -> bool
     requires { term.now.subject < length store.now.first }
     ensures { IsTrue result ↔ ((1 ≤ term.now.weight) × IsFalseNow store.now (assumed term.now)) }
 {
-    if term.weight == 0 {
-        return false;
-    }
-    match store.truth(assumption(term)) {
-        Truth::No => true,
-        Truth::Yes | Truth::Undecided => false,
-    }
+    term.weight > 0 && is_past(store, term)
 }
 
 /// Whether a term has a weight above 0 and its assumption is undecided.
@@ -41,13 +50,7 @@ fn is_open(store: &Store, term: &Held) -> bool
     requires { term.now.subject < length store.now.first }
     ensures { IsTrue result ↔ ((1 ≤ term.now.weight) × IsUndecided store.now (assumed term.now)) }
 {
-    if term.weight == 0 {
-        return false;
-    }
-    match store.truth(assumption(term)) {
-        Truth::Undecided => true,
-        Truth::Yes | Truth::No => false,
-    }
+    term.weight > 0 && !is_past(store, term) && !stays(store, term)
 }
 
 /// The place of the first term with a weight above 0 whose assumption is false.

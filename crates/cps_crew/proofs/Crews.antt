@@ -18,6 +18,9 @@ use Rattle.cps_bounds.specs.Seats as words
 use Rattle.cps_board.specs.Seats as boards
 use Rattle.cps_bounds.specs.Rule.{both_parts}
 use Rattle.cps_port.specs.declared.part.BoundsPart.{BoundsPart}
+use Rattle.cps_port.specs.declared.part.Part.{Part}
+use Rattle.cps_port.specs.Entries.{most_rows}
+use Rattle.cps_port.specs.Parts.{newcomer}
 use Rattle.cps_port.specs.Order.{BoundLe, IsNoLower, lesser, greater, greater_of, raised_above}
 use Rattle.cps_port.specs.Totals.{total}
 use Rattle.cps_port.proofs.BoundLaws.{BoundLe-trans, lesser-first, lesser-second, greater-first, greater-exchange}
@@ -29,7 +32,7 @@ use Rattle.cps_search.specs.Ends.{Ending, IsOver, IsHonestEnding}
 use Rattle.cps_search.specs.Following.{best_bound}
 use Rattle.cps_search.proofs.Bounds.{greater-second, same_bound}
 use Rattle.cps_crew.specs.declared.seats.Seated.{Seated}
-use Rattle.cps_crew.specs.Workers.{AnySearch, search_in, kind_in, ending_in, worker_kind, SearchesNear}
+use Rattle.cps_crew.specs.Workers.{AnySearch, search_in, kind_in, ending_in, worker_kind, DrawsBy, HasEnded, SearchesNear}
 use Rattle.cps_model.specs.Start.{objective_start}
 use Rattle.cps_port.specs.Incumbents.{IsLowerBound}
 use Rattle.cps_crew.specs.Outcomes.{CameTo, EndedWithin, GoesByModel, HasSums, better, best_of}
@@ -70,6 +73,14 @@ module _ {A : Type 0} where
 
   pub each_last : (P : ℕ → A → Type 0) (xs : List A) (x : A) → ((i : ℕ) (d : A) → i < length (xs ++ x ∷ []) → P i (get_or (xs ++ x ∷ []) i d)) → P (length xs) x
   each_last P xs x h = subst (P (length xs)) (last_at xs x x) (h (length xs) x (omega (arith, length-append xs (x ∷ []))))
+
+  -- a fact of each place from a number on, where it holds of the first place and of those after it
+  pub each_cons : (P : ℕ → A → Type 0) (first : ℕ) (x : A) (xs : List A) → P first x → ((i : ℕ) (d : A) → i < length xs → P (first + 1 + i) (get_or xs i d)) → (i : ℕ) (d : A) → i < length (x ∷ xs) → P (first + i) (get_or (x ∷ xs) i d)
+  each_cons P first x xs here rest zero d l = subst (λ (j : ℕ). P j x) (let q : first ≡ first + 0 = omega arith in q) here
+  each_cons P first x xs here rest (suc i) d l = subst (λ (j : ℕ). P j (get_or xs i d)) (let q : first + 1 + i ≡ first + suc i = omega arith in q) (rest i d (omega (arith, l)))
+
+  pub each_from_none : (P : ℕ → A → Type 0) (xs : List A) → ((i : ℕ) (d : A) → i < length xs → P (0 + i) (get_or xs i d)) → (i : ℕ) (d : A) → i < length xs → P i (get_or xs i d)
+  each_from_none P xs h i d l = subst (λ (j : ℕ). P j (get_or xs i d)) (let q : 0 + i ≡ i = omega arith in q) (h i d l)
 
   take_all : (ys zs : List A) → take (length ys) (ys ++ zs) ≡ ys
   take_all [] zs = refl
@@ -170,34 +181,35 @@ no_lower_second (Some a) (Some c) b h = BoundLe-trans c (greater a c) b (greater
 
 -- ---- one more worker's seats were joined
 
-pub none_gathered : (m : CpModel) (gap conflicts first : ℕ) (k : BoundsPart) → k.offered ≡ Infinite → k.raised ≡ None → AreGathered m gap conflicts first 0 k []
-none_gathered m gap conflicts first k offered raised = record {
+pub none_gathered : (m : CpModel) (o : Options) (first : ℕ) (k : BoundsPart) → k.offered ≡ Infinite → k.raised ≡ None → AreGathered m o first 0 k []
+none_gathered m o first k offered raised = record {
   kinds = refl;
   offered = offered;
   raised = λ start. ap (λ (o : Option Bound). raised_above o start) raised;
-  each = All-nil (EndedSeen m gap conflicts k);
+  each = All-nil (EndedSeen m o.gap o.conflicts k);
+  goes = λ i d l. absurd (omega (arith, l));
 }
 
 pub over_is : (s : Search) (end : End) → s.phase ≡ Over end → IsOver s.phase
 over_is s end e = subst IsOver (sym e) tt
 
 -- what is seen of a worker that ended honestly
-pub honest_end : (m : CpModel) (gap conflicts : ℕ) (q : BoundsPart) (number : ℕ) (s : AnySearch) (e : Ending) → kind_in s ≡ worker_kind number → IsHonestlyDone m gap conflicts q s → (search_in s).phase ≡ Over e.end → e ≡ ending_in s e.end
-    → IsHonestEnd m gap conflicts q number e
-honest_end m gap conflicts q number s e kind_is done phase is =
+pub honest_end : (m : CpModel) (o : Options) (q : BoundsPart) (number : ℕ) (s : AnySearch) (e : Ending) → kind_in s ≡ worker_kind number → IsHonestlyDone m o number q s → (search_in s).phase ≡ Over e.end → e ≡ ending_in s e.end
+    → IsHonestEnd m o q number e
+honest_end m o q number s e kind_is done phase is =
     let both : Over e.end ≡ Over done.end = sym phase ∙ done.over in
     let same : e.end ≡ done.end = cc in
     let all : e ≡ ending_in s done.end = is ∙ ap (ending_in s) same in
     record {
       kind = ap (λ (x : Ending). x.kind) all ∙ kind_is;
-      honest = subst (IsHonestEnding m gap conflicts q) (sym all) done.honest;
+      honest = subst (IsHonestEnding m o.gap o.conflicts q) (sym all) done.honest;
       sums = subst (λ (x : Ending). HasSums x.kind m x.defs) (sym all) done.sums;
-      goes = subst (GoesByModel m gap conflicts) (sym all) done.goes;
+      goes = subst (GoesByModel m o number) (sym all) done.goes;
     }
 
-pub one_gathered : (m : CpModel) (gap conflicts first count : ℕ) (k j q : BoundsPart) (e : Ending) (ends : List Ending) → AreGathered m gap conflicts (first + 1) count k ends → IsHonestEnd m gap conflicts q first e → j ≡ both_parts k q
-    → AreGathered m gap conflicts first (suc count) j (e ∷ ends)
-one_gathered m gap conflicts first count k j q e ends h done joined =
+pub one_gathered : (m : CpModel) (o : Options) (first count : ℕ) (k j q : BoundsPart) (e : Ending) (ends : List Ending) → AreGathered m o (first + 1) count k ends → IsHonestEnd m o q first e → j ≡ both_parts k q
+    → AreGathered m o first (suc count) j (e ∷ ends)
+one_gathered m o first count k j q e ends h done joined =
     let offered : j.offered ≡ lesser k.offered q.offered = ap (λ (x : BoundsPart). x.offered) joined in
     let raised : j.raised ≡ greater_of k.raised q.raised = ap (λ (x : BoundsPart). x.raised) joined in
     let upper : j.saw_upper ≡ lesser k.saw_upper q.saw_upper = ap (λ (x : BoundsPart). x.saw_upper) joined in
@@ -206,34 +218,34 @@ one_gathered m gap conflicts first count k j q e ends h done joined =
       kinds = ap₂ (λ (x : WorkerKind) (xs : List WorkerKind). x ∷ xs) done.kind h.kinds;
       offered = offered ∙ ap₂ lesser h.offered done.honest.offered ∙ best_lesser m e.best (best_of m ends);
       raised = λ start. ap (λ (o : Option Bound). raised_above o start) raised ∙ raised_both k.raised q.raised start ∙ ap₂ raised_above done.honest.raised (h.raised start);
-      each = All-cons (EndedSeen m gap conflicts j) e ends (record {
+      each = All-cons (EndedSeen m o.gap o.conflicts j) e ends (record {
         part = q;
         ended = done.honest;
         sums = done.sums;
-        goes = done.goes;
         above = subst (λ (b : Bound). BoundLe b q.saw_upper) (sym upper) (lesser-second k.saw_upper q.saw_upper);
         below = λ b l. no_lower_second k.saw_lower q.saw_lower b (subst (λ (o : Option Bound). IsNoLower o b) lower l);
       })
-          (All-weaker (EndedSeen m gap conflicts k) (EndedSeen m gap conflicts j) (λ x y. record {
+          (All-weaker (EndedSeen m o.gap o.conflicts k) (EndedSeen m o.gap o.conflicts j) (λ x y. record {
             part = y.part;
             ended = y.ended;
             sums = y.sums;
-            goes = y.goes;
             above = subst (λ (b : Bound). BoundLe b y.part.saw_upper) (sym upper) (BoundLe-trans (lesser k.saw_upper q.saw_upper) k.saw_upper y.part.saw_upper (lesser-first k.saw_upper q.saw_upper) y.above);
             below = λ b l. y.below b (no_lower_first k.saw_lower q.saw_lower b (subst (λ (o : Option Bound). IsNoLower o b) lower l));
           }) ends h.each);
+      goes = each_cons (GoesByModel m o) first e ends done.goes h.goes;
     }
 
 -- ---- a worker that was seated and then searched is back
 
-pub has_returned : (m : CpModel) (o : Options) (board : Board) (bounds : Bounds) (number : ℕ) (a b : Seated) → IsSeated board bounds number a → Worked m o a b → HasReturned m o.gap o.conflicts board bounds number b
-has_returned m o board bounds number a b h w = record {
+pub has_returned : (m : CpModel) (o : Options) (board : Board) (bounds : Bounds) (number : ℕ) (a b : Seated) → boards.rows_of board ≡ most_rows → IsSeated board bounds number a → Worked m o a b → HasReturned m o board bounds number b
+has_returned m o board bounds number a b whole h w = record {
   board_is = w.seats.board ∙ h.board_is;
   bounds_is = w.seats.bounds ∙ h.bounds_is;
   done = IfSome_then b.ended w.ended (λ e s.
-      let rows = boards.rows_of a.port.board.now in
-      let done = done_from m o.gap o.conflicts rows s.first s.last (part_at a) (part_at b) s.begins h.offered h.raised s.ended in
-      honest_end m o.gap o.conflicts (words_part b) number s.last e (s.kind ∙ ap worker_kind h.number_is) done s.over s.is);
+      let rows : boards.rows_of a.port.board.now ≡ most_rows = ap boards.rows_of h.board_is ∙ whole in
+      let ended = subst (λ (n : ℕ). HasEnded n s.first s.last newcomer (part_at b)) rows (subst (λ (p : Part). HasEnded (boards.rows_of a.port.board.now) s.first s.last p (part_at b)) h.new s.ended) in
+      let draws = subst (λ (n : ℕ). DrawsBy o.seed n s.first) h.number_is s.draws in
+      honest_end m o (words_part b) number s.last e (s.kind ∙ ap worker_kind h.number_is) (done_from m o number s.first s.last (part_at b) s.begins draws ended) s.over s.is);
 }
 
 pub all_ready : (suits : CpModel → Type 0) (m pool : CpModel) (is_read : Bool) (o : Options) (board : Board) (bounds : Bounds) (crew : List Seated) → words.model_of bounds ≡ m → pool ≡ m → (IsTrue is_read ↔ SearchesNear o.workers) → length crew ≡ o.workers → AreInRange o → suits m
@@ -242,22 +254,22 @@ all_ready suits m pool is_read o board bounds crew model found reads count range
     let s = h.each i d l in
     record { range = range; suited = suited; number = (let at = s.number_is in omega (arith, at, count, l)); found = found; reads = reads; words = ap words.model_of s.bounds_is ∙ model }
 
-pub all_back : (m : CpModel) (o : Options) (board : Board) (bounds : Bounds) (crew after : List Seated) → length after ≡ length crew → IsCrew board bounds crew
-    → ((i : ℕ) (d : Seated) → i < length crew → Worked m o (slice_index_or crew i d) (slice_index_or after i d)) → HaveReturned m o.gap o.conflicts board bounds after
-all_back m o board bounds crew after len h w = record { each = λ i d l. let k : i < length crew = omega (arith, l, len) in has_returned m o board bounds i _ _ (h.each i d k) (w i d k) }
+pub all_back : (m : CpModel) (o : Options) (board : Board) (bounds : Bounds) (crew after : List Seated) → boards.rows_of board ≡ most_rows → length after ≡ length crew → IsCrew board bounds crew
+    → ((i : ℕ) (d : Seated) → i < length crew → Worked m o (slice_index_or crew i d) (slice_index_or after i d)) → HaveReturned m o board bounds after
+all_back m o board bounds crew after whole len h w = record { each = λ i d l. let k : i < length crew = omega (arith, l, len) in has_returned m o board bounds i _ _ whole (h.each i d k) (w i d k) }
 
 -- the workers that were written over the crew after they searched
-pub written_back : (m : CpModel) (o : Options) (board board' : Board) (bounds bounds' : Bounds) (n : ℕ) (crew before after : List Seated) → n ≡ length crew → before ≡ crew → length after ≡ length before → board ≡ board' → bounds ≡ bounds'
+pub written_back : (m : CpModel) (o : Options) (board board' : Board) (bounds bounds' : Bounds) (n : ℕ) (crew before after : List Seated) → n ≡ length crew → before ≡ crew → length after ≡ length before → board ≡ board' → bounds ≡ bounds' → boards.rows_of board' ≡ most_rows
     → IsCrew board' bounds' crew → ((i : ℕ) (d : Seated) → i < length before → Worked m o (slice_index_or before i d) (slice_index_or after i d))
-    → HaveReturned m o.gap o.conflicts board bounds (take n (after ++ drop (length after) crew))
-written_back m o board board' bounds bounds' n crew before after full same len at_board at_bounds h w =
+    → HaveReturned m o board bounds (take n (after ++ drop (length after) crew))
+written_back m o board board' bounds bounds' n crew before after full same len at_board at_bounds whole h w =
     let long : length after ≡ length crew = len ∙ ap (λ (l : List Seated). length l) same in
     let there = subst (λ (b : Bounds). IsCrew board b crew) (sym at_bounds) (subst (λ (b : Board). IsCrew b bounds' crew) (sym at_board) h) in
     let seated = subst (IsCrew board bounds) (sym same) there in
-    subst (HaveReturned m o.gap o.conflicts board bounds) (sym (written n crew after full long)) (all_back m o board bounds before after len seated w)
+    subst (HaveReturned m o board bounds) (sym (written n crew after full long)) (all_back m o board bounds before after (ap boards.rows_of at_board ∙ whole) len seated w)
 
-pub all_at : (m : CpModel) (gap conflicts : ℕ) (board : Board) (bounds : Bounds) (crew : List Seated) → HaveReturned m gap conflicts board bounds crew → All (IsBackAt board bounds) crew
-all_at m gap conflicts board bounds crew h i d l = let back = h.each i d l in (back.board_is, back.bounds_is)
+pub all_at : (m : CpModel) (o : Options) (board : Board) (bounds : Bounds) (crew : List Seated) → HaveReturned m o board bounds crew → All (IsBackAt board bounds) crew
+all_at m o board bounds crew h i d l = let back = h.each i d l in (back.board_is, back.bounds_is)
 
 pub splits_back : (m : CpModel) (o : Options) (crew after : List Seated) → length after ≡ length crew → ((i : ℕ) (d : Seated) → i < length crew → Worked m o (slice_index_or crew i d) (slice_index_or after i d))
     → total words_splits after ≡ total words_splits crew
@@ -265,19 +277,19 @@ splits_back m o crew after len w = total_same words_splits crew after len (λ i 
 
 -- ---- the words that are left
 
-pub came_to : (m : CpModel) (gap conflicts workers : ℕ) (k : BoundsPart) (upper lower : Bound) (ends : List Ending) → AreGathered m gap conflicts 0 workers k ends → upper ≡ k.offered → lower ≡ raised_above k.raised (At (objective_start m))
-    → IsLowerBound m lower → BoundLe upper k.saw_upper → IsNoLower k.saw_lower lower → CameTo m gap conflicts workers upper lower ends
-came_to m gap conflicts workers k upper lower ends h u l floor above below = record {
+pub came_to : (m : CpModel) (o : Options) (k : BoundsPart) (upper lower : Bound) (ends : List Ending) → AreGathered m o 0 o.workers k ends → upper ≡ k.offered → lower ≡ raised_above k.raised (At (objective_start m))
+    → IsLowerBound m lower → BoundLe upper k.saw_upper → IsNoLower k.saw_lower lower → CameTo m o upper lower ends
+came_to m o k upper lower ends h u l floor above below = record {
   kinds = h.kinds;
   upper_is = u ∙ h.offered;
   lower_is = l ∙ h.raised (At (objective_start m));
   floor = floor;
-  each = All-weaker (EndedSeen m gap conflicts k) (EndedWithin m gap conflicts upper lower) (λ e y. record {
+  each = All-weaker (EndedSeen m o.gap o.conflicts k) (EndedWithin m o.gap o.conflicts upper lower) (λ e y. record {
     part = y.part;
     ended = y.ended;
     sums = y.sums;
-    goes = y.goes;
     above = BoundLe-trans upper k.saw_upper y.part.saw_upper above y.above;
     below = y.below lower below;
   }) ends h.each;
+  goes = each_from_none (GoesByModel m o) ends h.goes;
 }

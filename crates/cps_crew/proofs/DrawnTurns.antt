@@ -11,6 +11,8 @@ use Rattle.cps_model.specs.declared.bound.Bound.{Bound}
 use Rattle.cps_model.specs.declared.bound.Bound.TheVariants.{At}
 use Rattle.cps_model.specs.Start.{objective_start}
 use Rattle.cps_port.specs.declared.entry.Entry.{Entry}
+use Rattle.cps_options.specs.declared.options.Options.{Options}
+use Rattle.cps_port.specs.Entries.{most_rows}
 use Rattle.cps_port.specs.Shared.{Shared, part_at, actor_count, first_shared}
 use Rattle.cps_port.specs.Parts.{newcomer, no_rows, no_bounds}
 use Rattle.cps_port.specs.declared.part.BoardPart.{BoardPart}
@@ -31,7 +33,7 @@ use Rattle.cps_crew.specs.Crews.{IsHonestlyDone}
 use Rattle.cps_crew.specs.Turning.{AtWork, IsTurning, AreTurning, IsFresh, AreFresh, one_at_work, count_at_work, end_of_phase, ended_of, place_at_work, drawn_place, TakesTurnAt, TakesDrawnTurns}
 use Rattle.cps_crew.specs.Turning.{none_yet as none_drawn, one_more as one_drawn}
 use Rattle.cps_crew.proofs.MemberRuns.{has_begun, has_kept, none_taken, turned_on, still_runs, left_in, lighter_in, done_from}
-use Rattle.cps_crew.proofs.Crews.{lesser_best, over_is}
+use Rattle.cps_crew.proofs.Crews.{each_cons, each_from_none, lesser_best, over_is}
 
 -- ---- one of a list changes
 
@@ -66,53 +68,53 @@ module _ {A : Type 0} where
 -- ---- a worker's turn among others
 
 module _ {W : Type 0} (known : W → AnySearch) where
-  pub at_work : (m : CpModel) (gap conflicts rows : ℕ) (c : Shared) (crew : List (Turning W)) (i : ℕ) (d : Turning W) → AreTurning known m gap conflicts rows c crew → i < length crew → (get_or crew i d).over ≡ false
-      → AtWork m gap conflicts rows (known (get_or crew i d).worker) (part_at c i)
-  at_work m gap conflicts rows c crew i d h l still = (h.each i d l).at_work still
+  pub at_work : (m : CpModel) (o : Options) (c : Shared) (crew : List (Turning W)) (i : ℕ) (d : Turning W) → AreTurning known m o c crew → i < length crew → (get_or crew i d).over ≡ false
+      → AtWork m o i (known (get_or crew i d).worker) (part_at c i)
+  at_work m o c crew i d h l still = (h.each i d l).at_work still
 
-pub work_model : (m : CpModel) (gap conflicts rows : ℕ) (s : AnySearch) (q : Part) → AtWork m gap conflicts rows s q → (search_in s).instance.model ≡ m
-work_model m gap conflicts rows s q h =
-    let b = has_begun m gap conflicts h.first h.begins in
-    let kept = has_kept rows h.first s newcomer q h.turns in
+pub work_model : (m : CpModel) (o : Options) (i : ℕ) (s : AnySearch) (q : Part) → AtWork m o i s q → (search_in s).instance.model ≡ m
+work_model m o i s q h =
+    let b = has_begun m o.gap o.conflicts h.first h.begins in
+    let kept = has_kept most_rows h.first s newcomer q h.turns in
     kept.model ∙ b.model
 
-pub work_memory : (m : CpModel) (gap conflicts rows : ℕ) (s : AnySearch) (q : Part) → AtWork m gap conflicts rows s q → (search_in s).refused ≡ false
-work_memory m gap conflicts rows s q h =
-    let b = has_begun m gap conflicts h.first h.begins in
-    let kept = has_kept rows h.first s newcomer q h.turns in
+pub work_memory : (m : CpModel) (o : Options) (i : ℕ) (s : AnySearch) (q : Part) → AtWork m o i s q → (search_in s).refused ≡ false
+work_memory m o i s q h =
+    let b = has_begun m o.gap o.conflicts h.first h.begins in
+    let kept = has_kept most_rows h.first s newcomer q h.turns in
     kept.refused ∙ b.refused
 
-pub work_imported : (m : CpModel) (gap conflicts rows : ℕ) (s : AnySearch) (q : Part) → AtWork m gap conflicts rows s q → (search_in s).imported ≤ length q.board.taken
-work_imported m gap conflicts rows s q h =
-    let b = has_begun m gap conflicts h.first h.begins in
-    let kept = has_kept rows h.first s newcomer q h.turns in
+pub work_imported : (m : CpModel) (o : Options) (i : ℕ) (s : AnySearch) (q : Part) → AtWork m o i s q → (search_in s).imported ≤ length q.board.taken
+work_imported m o i s q h =
+    let b = has_begun m o.gap o.conflicts h.first h.begins in
+    let kept = has_kept most_rows h.first s newcomer q h.turns in
     kept.moves.imports (let none = b.imported in omega (arith, none))
 
 module _ {W : Type 0} (known : W → AnySearch) where
-  turns_on : (m : CpModel) (gap conflicts rows : ℕ) (c d : Shared) (i : ℕ) (w v : Turning W) → IsTurning known m gap conflicts rows c i w → w.over ≡ false → kind_in (known v.worker) ≡ kind_in (known w.worker)
-      → HasTurned rows (known w.worker) (known v.worker) (part_at c i) (part_at d i) v.over → IsTurning known m gap conflicts rows d i v
-  turns_on m gap conflicts rows c d i w v h still kind turn =
+  turns_on : (m : CpModel) (o : Options) (c d : Shared) (i : ℕ) (w v : Turning W) → IsTurning known m o c i w → w.over ≡ false → kind_in (known v.worker) ≡ kind_in (known w.worker)
+      → HasTurned most_rows (known w.worker) (known v.worker) (part_at c i) (part_at d i) v.over → IsTurning known m o d i v
+  turns_on m o c d i w v h still kind turn =
       let a = h.at_work still in
       let s = known w.worker in
       let t = known v.worker in
       record {
         kind = kind ∙ h.kind;
         at_work = λ on.
-            let goes_on = subst (HasTurned rows s t (part_at c i) (part_at d i)) on turn in
-            record { first = a.first; begins = a.begins; turns = turned_on rows a.first s t newcomer (part_at c i) (part_at d i) a.turns goes_on; running = still_runs rows s t (part_at c i) (part_at d i) goes_on };
+            let goes_on = subst (HasTurned most_rows s t (part_at c i) (part_at d i)) on turn in
+            record { first = a.first; begins = a.begins; draws = a.draws; turns = turned_on most_rows a.first s t newcomer (part_at c i) (part_at d i) a.turns goes_on; running = still_runs most_rows s t (part_at c i) (part_at d i) goes_on };
         done = λ stopped.
-            let last = subst (HasTurned rows s t (part_at c i) (part_at d i)) stopped turn in
-            done_from m gap conflicts rows a.first t newcomer (part_at d i) a.begins refl refl (record { before = s; part = part_at c i; turns = a.turns; last = last });
+            let last = subst (HasTurned most_rows s t (part_at c i) (part_at d i)) stopped turn in
+            done_from m o i a.first t (part_at d i) a.begins a.draws (record { before = s; part = part_at c i; turns = a.turns; last = last });
       }
 
-  pub all_turn_on : (m : CpModel) (gap conflicts rows : ℕ) (c d : Shared) (crew : List (Turning W)) (k : ℕ) (w v : Turning W) → AreTurning known m gap conflicts rows c crew → k < length crew → get_or crew k w ≡ w → w.over ≡ false → kind_in (known v.worker) ≡ kind_in (known w.worker)
-      → HasTurned rows (known w.worker) (known v.worker) (part_at c k) (part_at d k) v.over → ((i : ℕ) → i ≢ k → part_at d i ≡ part_at c i) → AreTurning known m gap conflicts rows d (set crew k v)
-  all_turn_on m gap conflicts rows c d crew k w v h l is still kind turn others =
-      let here = subst (λ (x : Turning W). IsTurning known m gap conflicts rows c k x) is (h.each k w l) in
-      let every = each_set (IsTurning known m gap conflicts rows c) (IsTurning known m gap conflicts rows d) crew k v h.each (turns_on m gap conflicts rows c d k w v here still kind turn) (λ i n y t. record {
+  pub all_turn_on : (m : CpModel) (o : Options) (c d : Shared) (crew : List (Turning W)) (k : ℕ) (w v : Turning W) → AreTurning known m o c crew → k < length crew → get_or crew k w ≡ w → w.over ≡ false → kind_in (known v.worker) ≡ kind_in (known w.worker)
+      → HasTurned most_rows (known w.worker) (known v.worker) (part_at c k) (part_at d k) v.over → ((i : ℕ) → i ≢ k → part_at d i ≡ part_at c i) → AreTurning known m o d (set crew k v)
+  all_turn_on m o c d crew k w v h l is still kind turn others =
+      let here = subst (λ (x : Turning W). IsTurning known m o c k x) is (h.each k w l) in
+      let every = each_set (IsTurning known m o c) (IsTurning known m o d) crew k v h.each (turns_on m o c d k w v here still kind turn) (λ i n y t. record {
         kind = t.kind;
-        at_work = λ on. subst (AtWork m gap conflicts rows (known y.worker)) (sym (others i n)) (t.at_work on);
-        done = λ stopped. subst (λ (q : Part). IsHonestlyDone m gap conflicts q.bounds (known y.worker)) (sym (others i n)) (t.done stopped);
+        at_work = λ on. subst (AtWork m o i (known y.worker)) (sym (others i n)) (t.at_work on);
+        done = λ stopped. subst (λ (q : Part). IsHonestlyDone m o i q.bounds (known y.worker)) (sym (others i n)) (t.done stopped);
       }) in
       record { each = λ i b m. every i b (omega (arith, m, length-set crew k v)) }
 
@@ -227,20 +229,21 @@ pub first_rows : (m : CpModel) (actors rows : ℕ) → length (first_shared m ac
 first_rows m actors rows = length-replicate {A = Option Entry} rows None
 
 module _ {W : Type 0} (known : W → AnySearch) where
-  pub all_fresh : (m : CpModel) (gap conflicts seed board actors rows : ℕ) (c : Shared) (crew : List (Turning W)) → c ≡ first_shared m actors rows → AreFresh known m gap conflicts seed crew → AreTurning known m gap conflicts board c crew
-  all_fresh m gap conflicts seed board actors rows c crew is h = record { each = λ i d l. one i (get_or crew i d) (h.each i d l) }
+  pub all_fresh : (m : CpModel) (o : Options) (actors rows : ℕ) (c : Shared) (crew : List (Turning W)) → c ≡ first_shared m actors rows → AreFresh known m o.gap o.conflicts o.seed crew → AreTurning known m o c crew
+  all_fresh m o actors rows c crew is h = record { each = λ i d l. one i (get_or crew i d) (h.each i d l) }
     where
-      one : (i : ℕ) (w : Turning W) → IsFresh known m gap conflicts seed i w → IsTurning known m gap conflicts board c i w
+      one : (i : ℕ) (w : Turning W) → IsFresh known m o.gap o.conflicts o.seed i w → IsTurning known m o c i w
       one i w k =
           let s = known w.worker in
-          let b = has_begun m gap conflicts s k.begins in
+          let b = has_begun m o.gap o.conflicts s k.begins in
           let part : part_at c i ≡ newcomer = ap (λ (x : Shared). part_at x i) is ∙ fresh_part m actors rows i in
           record {
             kind = k.kind;
             at_work = λ still. record {
               first = s;
               begins = k.begins;
-              turns = subst (TakesTurnsAs board s s newcomer) (sym part) (none_taken board s newcomer);
+              draws = k.draws;
+              turns = subst (TakesTurnsAs most_rows s s newcomer) (sym part) (none_taken most_rows s newcomer);
               running = b.running;
             };
             done = λ stopped. absurd (let q : false ≡ true = sym k.not_over ∙ stopped in cc);
@@ -249,52 +252,53 @@ module _ {W : Type 0} (known : W → AnySearch) where
 -- ---- workers that have all ended
 
 module _ {W : Type 0} (known : W → AnySearch) where
-  record IsConcluded (m : CpModel) (gap conflicts : ℕ) (upper lower : Bound) (number : ℕ) (q : BoundsPart) (w : Turning W) : Type 0 where
+  record IsConcluded (m : CpModel) (o : Options) (upper lower : Bound) (number : ℕ) (q : BoundsPart) (w : Turning W) : Type 0 where
     kind : kind_in (known w.worker) ≡ worker_kind number
-    done : IsHonestlyDone m gap conflicts q (known w.worker)
+    done : IsHonestlyDone m o number q (known w.worker)
     above : BoundLe upper q.saw_upper
     below : IsNoLower q.saw_lower lower
 
-record AreConcluded (m : CpModel) (gap conflicts : ℕ) (upper lower : Bound) (first count : ℕ) (ps : List BoundsPart) (es : List Ending) : Type 0 where
+record AreConcluded (m : CpModel) (o : Options) (upper lower : Bound) (first count : ℕ) (ps : List BoundsPart) (es : List Ending) : Type 0 where
   kinds : map (λ (e : Ending). e.kind) es ≡ map worker_kind (range_with_len first count)
   offered : least_offer ps ≡ best_bound m (best_of m es)
   raised : (start : Bound) → greatest_raise start ps ≡ greatest_raised start es
-  each : All (EndedWithin m gap conflicts upper lower) es
+  each : All (EndedWithin m o.gap o.conflicts upper lower) es
+  goes : (i : ℕ) (d : Ending) → i < length es → GoesByModel m o (first + i) (get_or es i d)
 
-module _ {W : Type 0} (known : W → AnySearch) (m : CpModel) (gap conflicts : ℕ) (upper lower : Bound) where
-  concluded : (first : ℕ) (crew : List (Turning W)) (ps : List BoundsPart) → length ps ≡ length crew → ((i : ℕ) (d : Turning W) → i < length crew → IsConcluded known m gap conflicts upper lower (first + i) (get_or ps i no_bounds) (get_or crew i d))
-      → AreConcluded m gap conflicts upper lower first (length crew) ps (map (ended_of known) crew)
-  concluded first [] [] len h = record { kinds = refl; offered = refl; raised = λ start. refl; each = All-nil (EndedWithin m gap conflicts upper lower) }
+module _ {W : Type 0} (known : W → AnySearch) (m : CpModel) (o : Options) (upper lower : Bound) where
+  concluded : (first : ℕ) (crew : List (Turning W)) (ps : List BoundsPart) → length ps ≡ length crew → ((i : ℕ) (d : Turning W) → i < length crew → IsConcluded known m o upper lower (first + i) (get_or ps i no_bounds) (get_or crew i d))
+      → AreConcluded m o upper lower first (length crew) ps (map (ended_of known) crew)
+  concluded first [] [] len h = record { kinds = refl; offered = refl; raised = λ start. refl; each = All-nil (EndedWithin m o.gap o.conflicts upper lower); goes = λ i d l. absurd (omega (arith, l)) }
   concluded first [] (p ∷ ps) len h = absurd (omega (arith, len))
   concluded first (w ∷ ws) [] len h = absurd (omega (arith, len))
   concluded first (w ∷ ws) (p ∷ ps) len h =
-      let k : IsConcluded known m gap conflicts upper lower first p w = subst (λ (j : ℕ). IsConcluded known m gap conflicts upper lower j p w) (let q : first + 0 ≡ first = omega arith in q) (h 0 w (omega arith)) in
+      let k : IsConcluded known m o upper lower first p w = subst (λ (j : ℕ). IsConcluded known m o upper lower j p w) (let q : first + 0 ≡ first = omega arith in q) (h 0 w (omega arith)) in
       let rest = concluded (first + 1) ws ps (omega (arith, len))
-      (λ i d l. subst (λ (j : ℕ). IsConcluded known m gap conflicts upper lower j (get_or ps i no_bounds) (get_or ws i d)) (let q : first + suc i ≡ first + 1 + i = omega arith in q) (h (suc i) d (omega (arith, l)))) in
+      (λ i d l. subst (λ (j : ℕ). IsConcluded known m o upper lower j (get_or ps i no_bounds) (get_or ws i d)) (let q : first + suc i ≡ first + 1 + i = omega arith in q) (h (suc i) d (omega (arith, l)))) in
       let s = known w.worker in
       let is : ended_of known w ≡ ending_in s k.done.end = ap (λ (y : Phase). ending_in s (end_of_phase y)) k.done.over in
-      let honest : IsHonestEnding m gap conflicts p (ended_of known w) = subst (IsHonestEnding m gap conflicts p) (sym is) k.done.honest in
+      let honest : IsHonestEnding m o.gap o.conflicts p (ended_of known w) = subst (IsHonestEnding m o.gap o.conflicts p) (sym is) k.done.honest in
       record {
         kinds = ap₂ (λ (x : WorkerKind) (xs : List WorkerKind). x ∷ xs) k.kind rest.kinds;
         offered = ap₂ lesser honest.offered rest.offered ∙ lesser_best m (ended_of known w).best (best_of m (map (ended_of known) ws));
         raised = λ start. ap₂ raised_above honest.raised (rest.raised start);
-        each = All-cons (EndedWithin m gap conflicts upper lower) (ended_of known w) (map (ended_of known) ws) (record {
+        each = All-cons (EndedWithin m o.gap o.conflicts upper lower) (ended_of known w) (map (ended_of known) ws) (record {
           part = p;
           ended = honest;
           sums = k.done.sums;
-          goes = subst (GoesByModel m gap conflicts) (sym is) k.done.goes;
           above = k.above;
           below = k.below;
         }) rest.each;
+        goes = each_cons (GoesByModel m o) first (ended_of known w) (map (ended_of known) ws) (subst (GoesByModel m o first) (sym is) k.done.goes) rest.goes;
       }
 
 module _ {W : Type 0} (known : W → AnySearch) where
-  pub came_in_turns : (m : CpModel) (gap conflicts rows workers : ℕ) (c : Shared) (crew : List (Turning W)) → IsSoundShared c → c.model ≡ m → length crew ≡ workers → actor_count c ≡ length crew → AreTurning known m gap conflicts rows c crew → count_at_work crew ≡ 0
-      → CameTo m gap conflicts workers c.bounds.upper c.bounds.lower (map (ended_of known) crew)
-  came_in_turns m gap conflicts rows workers c crew sound model len actors h none =
-      let all = concluded known m gap conflicts c.bounds.upper c.bounds.lower 0 crew c.bounds.parts (sound.both ∙ actors) (λ i d l.
+  pub came_in_turns : (m : CpModel) (o : Options) (c : Shared) (crew : List (Turning W)) → IsSoundShared c → c.model ≡ m → length crew ≡ o.workers → actor_count c ≡ length crew → AreTurning known m o c crew → count_at_work crew ≡ 0
+      → CameTo m o c.bounds.upper c.bounds.lower (map (ended_of known) crew)
+  came_in_turns m o c crew sound model len actors h none =
+      let all = concluded known m o c.bounds.upper c.bounds.lower 0 crew c.bounds.parts (sound.both ∙ actors) (λ i d l.
       let t = h.each i d l in
-      subst (λ (j : ℕ). IsConcluded known m gap conflicts c.bounds.upper c.bounds.lower j (get_or c.bounds.parts i no_bounds) (get_or crew i d)) (let q : i ≡ 0 + i = omega arith in q)
+      subst (λ (j : ℕ). IsConcluded known m o c.bounds.upper c.bounds.lower j (get_or c.bounds.parts i no_bounds) (get_or crew i d)) (let q : i ≡ 0 + i = omega arith in q)
       (record { kind = t.kind; done = t.done (all_over crew none i d l); above = sound.bounds.saw_upper i; below = sound.bounds.saw_lower i })) in
       record {
         kinds = all.kinds ∙ ap (λ (n : ℕ). map worker_kind (range_with_len 0 n)) len;
@@ -302,7 +306,8 @@ module _ {W : Type 0} (known : W → AnySearch) where
         lower_is = sound.bounds.lower ∙ all.raised (At (objective_start c.model)) ∙ ap (λ (x : CpModel). greatest_raised (At (objective_start x)) (map (ended_of known) crew)) model;
         floor = subst (λ (x : CpModel). IsLowerBound x c.bounds.lower) model sound.bounds.floor;
         each = all.each;
+        goes = each_from_none (GoesByModel m o) (map (ended_of known) crew) all.goes;
       }
 
-  pub each_over : (m : CpModel) (gap conflicts rows : ℕ) (c : Shared) (crew : List (Turning W)) → AreTurning known m gap conflicts rows c crew → count_at_work crew ≡ 0 → All (λ (w : Turning W). IsOver (search_in (known w.worker)).phase) crew
-  each_over m gap conflicts rows c crew h none i d l = let k = (h.each i d l).done (all_over crew none i d l) in over_is (search_in (known (get_or crew i d).worker)) k.end k.over
+  pub each_over : (m : CpModel) (o : Options) (c : Shared) (crew : List (Turning W)) → AreTurning known m o c crew → count_at_work crew ≡ 0 → All (λ (w : Turning W). IsOver (search_in (known w.worker)).phase) crew
+  each_over m o c crew h none i d l = let k = (h.each i d l).done (all_over crew none i d l) in over_is (search_in (known (get_or crew i d).worker)) k.end k.over

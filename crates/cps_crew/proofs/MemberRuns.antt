@@ -2,13 +2,16 @@
 use Rattle.std.specs.Prelude.{Bool, Option, Some, None, is_some, true, false, List, ℤ}
 use Rattle.std.proofs.Common.{◌≡◌, refl, sym, ap, subst, ◌∙◌, ℕ, ◌+◌, ◌<◌, inl, inr, []}
 use Rattle.cps_model.specs.declared.model.CpModel.{CpModel}
-use Rattle.cps_model.specs.declared.bound.Bound.TheVariants.{Infinite}
 use Rattle.cps_instance.specs.Strategies.{model_sums}
 use Rattle.cps_instance.specs.Sums.{DefinedSum}
 use Rattle.cps_instance.specs.Problem.{Problem}
 use Rattle.cps_trail.specs.Trail.{open_values}
 use Rattle.cps_port.specs.declared.part.BoardPart.{BoardPart}
 use Rattle.cps_port.specs.declared.part.Part.{Part}
+use Rattle.cps_port.specs.Entries.{most_rows}
+use Rattle.cps_port.specs.Parts.{newcomer}
+use Rattle.cps_options.specs.declared.options.Options.{Options}
+use Rattle.rand_pcg.specs.Lcg.{Lcg}
 use Rattle.cps_literal.specs.declared.atom.Atom.{Atom}
 use Rattle.cps_branch.specs.declared.guidance.Guidance.{Guidance}
 use Rattle.cps_branch.specs.declared.guidance.Guidance.TheVariants.{Steered, Hinted}
@@ -33,11 +36,12 @@ use Rattle.cps_core_guided.proofs.CoreEnds.{core-honest}
 use Rattle.cps_core_guided.proofs.CoreTermination.{core_left, core_lowered}
 use Rattle.cps_core_guided.proofs.CoreRuns.{HasCoreRun, core-begins, core-goes-on, core-turns-run}
 use Rattle.cps_core_guided.proofs.CoreTurnCauses.{phase-search}
-use Rattle.cps_neighbourhood.specs.Nears.{Near, NearRunsInTurns, OneNearTurn, TakesNearTurn, TakesNearTurns, aimed}
+use Rattle.cps_neighbourhood.specs.Drawing.{draws_of}
+use Rattle.cps_neighbourhood.specs.Nears.{Near, BeginsNear, NearRunsInTurns, OneNearTurn, TakesNearTurn, TakesNearTurns, aimed}
 use Rattle.cps_neighbourhood.specs.Nears.{none_yet as near_none_yet, one_more as near_one_more}
 use Rattle.cps_neighbourhood.proofs.LearntCounts.{HasNearRun, near_begins, near_goes_on, near_honest, near_turns_run}
 use Rattle.cps_neighbourhood.proofs.RoundTermination.{near_left, near_lowered}
-use Rattle.cps_crew.specs.Workers.{AnySearch, by_brancher, by_cores, in_rounds, search_in, HasBrancher, BeginsGuided, BeginsByCores, BeginsRounds, BeginsAs, IsAimed, TakesTurnsBy, TakesCoreTurnsBy, RunsByCores, TurnedBy, TurnedByCores, TurnedNear, HasTurned, TakesTurnsAs, HasEnded}
+use Rattle.cps_crew.specs.Workers.{AnySearch, by_brancher, by_cores, in_rounds, search_in, HasBrancher, BeginsGuided, BeginsByCores, BeginsRounds, BeginsAs, DrawsBy, near_stream, IsAimed, TakesTurnsBy, TakesCoreTurnsBy, RunsByCores, TurnedBy, TurnedByCores, TurnedNear, HasTurned, TakesTurnsAs, HasEnded}
 use Rattle.cps_crew.specs.Outcomes.{HasSums}
 use Rattle.cps_crew.specs.Crews.{IsHonestlyDone}
 
@@ -269,20 +273,20 @@ sums_of kinds.CoreGuided m defs h = tt
 sums_of kinds.Near m defs h = h
 
 -- one with a brancher that goes by what the model says
-guided_done : (m : CpModel) (gap conflicts rows : ℕ) (kind : WorkerKind) (b c d : Branching) (s u t : Search) (p n q : Part) → BeginsGuided m gap conflicts kind b s → TakesTurnsBy rows (s, b) (u, c) p n → TurnedBy rows (u, c) (t, d) n q true
-    → p.bounds.offered ≡ Infinite → p.bounds.raised ≡ None → IsHonestlyDone m gap conflicts q.bounds (by_brancher kind d t)
-guided_done m gap conflicts rows kind b c d s u t p n q begins turns last offered raised =
+guided_done : (m : CpModel) (o : Options) (number : ℕ) (kind : WorkerKind) (b c d : Branching) (s u t : Search) (n q : Part) → BeginsGuided m o.gap o.conflicts kind b s → TakesTurnsBy most_rows (s, b) (u, c) newcomer n → TurnedBy most_rows (u, c) (t, d) n q true
+    → IsHonestlyDone m o number q.bounds (by_brancher kind d t)
+guided_done m o number kind b c d s u t n q begins turns last =
     let e = some_of (end_of last.turn) last.last in
     let first = begins.begins in
-    let ends = run_ends (ChoosesAs c) s u t rows p n q last.turn e.0 last.before (has_run rows (s, b) p (u, c) n turns) last.takes.search e.1 in
-    let runs = subst (λ (x : Search). RunsTo x t p q e.0) first.is ends in
-    let all : RunsBy rows (s, b) (t, d) p q e.0 = record { before = (u, c); part = n; turns = turns; turn = last.turn; last = last.takes; ended = e.1 } in
-    let same : guidance_of d ≡ guidance_of b = turn_guided u t c d last.turn last.takes.brancher ∙ turns_guided rows (s, b) p (u, c) n turns in
+    let ends = run_ends (ChoosesAs c) s u t most_rows newcomer n q last.turn e.0 last.before (has_run most_rows (s, b) newcomer (u, c) n turns) last.takes.search e.1 in
+    let runs = subst (λ (x : Search). RunsTo x t newcomer q e.0) first.is ends in
+    let all : RunsBy most_rows (s, b) (t, d) newcomer q e.0 = record { before = (u, c); part = n; turns = turns; turn = last.turn; last = last.takes; ended = e.1 } in
+    let same : guidance_of d ≡ guidance_of b = turn_guided u t c d last.turn last.takes.brancher ∙ turns_guided most_rows (s, b) newcomer (u, c) n turns in
     record {
       end = e.0;
       over = ends.phase;
-      honest = subst (λ (x : CpModel). IsHonestEnding x gap conflicts q.bounds (ending kind (Some (guidance_of d)) e.0 t)) first.first.model
-          (honest_ending first.instance gap conflicts t p q kind (Some (guidance_of d)) e.0 (complete_of kind begins.guided) runs last.after offered raised);
+      honest = subst (λ (x : CpModel). IsHonestEnding x o.gap o.conflicts q.bounds (ending kind (Some (guidance_of d)) e.0 t)) first.first.model
+          (honest_ending first.instance o.gap o.conflicts t newcomer q kind (Some (guidance_of d)) e.0 (complete_of kind begins.guided) runs last.after refl refl);
       sums = sums_of kind m t.instance.defs (ap (λ (x : Problem). x.defs) runs.setting.instance ∙ first.first.sums);
       goes = record {
         instance = first.instance;
@@ -291,15 +295,13 @@ guided_done m gap conflicts rows kind b c d s u t p n q begins turns last offere
         sums = sym (ap (λ (x : Problem). x.defs) runs.setting.instance);
         guide = subst (λ (x : Guidance). IsGuidedBy kind first.instance (Some x)) (sym same) (subst (λ (x : Search). IsGuidedBy kind x.instance (Some (guidance_of b))) first.is begins.guide);
         decisions = record {
-          rows = rows;
           first = b;
           idle = begins.idle;
           guided = sym same;
           last = d;
           done = t;
-          before = p;
           after = q;
-          runs = subst (λ (x : Search). RunsBy rows (x, b) (t, d) p q e.0) first.is all;
+          runs = subst (λ (x : Search). RunsBy most_rows (x, b) (t, d) newcomer q e.0) first.is all;
           seen = refl;
         };
         cores = λ is. absurd (subst HasBrancher is begins.guided);
@@ -308,18 +310,18 @@ guided_done m gap conflicts rows kind b c d s u t p n q begins turns last offere
     }
 
 -- one that went by cores
-core_done : (m : CpModel) (gap conflicts rows : ℕ) (b c d : Branching) (s u t : CoreSearch) (p n q : Part) → BeginsByCores m gap conflicts b s → TakesCoreTurnsBy rows (s, b) (u, c) p n → TurnedByCores rows (u, c) (t, d) n q true
-    → p.bounds.offered ≡ Infinite → p.bounds.raised ≡ None → IsHonestlyDone m gap conflicts q.bounds (by_cores d t)
-core_done m gap conflicts rows b c d s u t p n q begins turns last offered raised =
+core_done : (m : CpModel) (o : Options) (number : ℕ) (b c d : Branching) (s u t : CoreSearch) (n q : Part) → BeginsByCores m o.gap o.conflicts b s → TakesCoreTurnsBy most_rows (s, b) (u, c) newcomer n → TurnedByCores most_rows (u, c) (t, d) n q true
+    → IsHonestlyDone m o number q.bounds (by_cores d t)
+core_done m o number b c d s u t n q begins turns last =
     let e = some_of (end_of last.turn) last.last in
     let first = begins.begins in
-    let runs : RunsByCores rows (s, b) (t, d) p q e.0 = record { before = (u, c); part = n; turns = turns; turn = last.turn; last = last.takes; ended = e.1 } in
-    let run = core-turns-run ChoosesAs HearsAs StaysAs rows (s, b) (t, d) p q e.0 runs last.takes.before in
+    let runs : RunsByCores most_rows (s, b) (t, d) newcomer q e.0 = record { before = (u, c); part = n; turns = turns; turn = last.turn; last = last.takes; ended = e.1 } in
+    let run = core-turns-run ChoosesAs HearsAs StaysAs most_rows (s, b) (t, d) newcomer q e.0 runs last.takes.before in
     record {
       end = e.0;
       over = run.phase;
-      honest = subst (λ (x : CpModel). IsHonestEnding x gap conflicts q.bounds (core_ending e.0 t)) first.first.model
-          (core-honest ChoosesAs HearsAs StaysAs first.instance gap conflicts rows (s, b) (t, d) p q e.0 first.is runs last.takes.before last.takes.after offered raised);
+      honest = subst (λ (x : CpModel). IsHonestEnding x o.gap o.conflicts q.bounds (core_ending e.0 t)) first.first.model
+          (core-honest ChoosesAs HearsAs StaysAs first.instance o.gap o.conflicts most_rows (s, b) (t, d) newcomer q e.0 first.is runs last.takes.before last.takes.after refl refl);
       sums = tt;
       goes = record {
         instance = t.search.instance;
@@ -328,24 +330,26 @@ core_done m gap conflicts rows b c d s u t p n q begins turns last offered raise
         sums = refl;
         guide = tt;
         decisions = tt;
-        cores = λ is. record { rows = rows; first = s; idle = b; begins = begins; done = t; last = d; before = p; after = q; runs = runs; seen = refl };
+        cores = λ is. record { first = s; idle = b; begins = begins; done = t; last = d; after = q; runs = runs; seen = refl };
         rounds = λ is. absurd (cc is);
       };
     }
 
 -- one that went in rounds
-near_done : (m : CpModel) (gap conflicts rows : ℕ) (s u t : Near) (p n q : Part) → BeginsRounds m gap conflicts s → TakesNearTurns rows s p u n → TurnedNear rows u t n q true
-    → p.bounds.offered ≡ Infinite → p.bounds.raised ≡ None → IsHonestlyDone m gap conflicts q.bounds (in_rounds t)
-near_done m gap conflicts rows s u t p n q begins turns last offered raised =
+near_done : (m : CpModel) (o : Options) (number : ℕ) (s u t : Near) (n q : Part) → BeginsRounds m o.gap o.conflicts s → DrawsBy o.seed number (in_rounds s) → TakesNearTurns most_rows s newcomer u n → TurnedNear most_rows u t n q true
+    → IsHonestlyDone m o number q.bounds (in_rounds t)
+near_done m o number s u t n q begins draws turns last =
     let e = some_of (end_of last.turn) last.last in
-    let runs : NearRunsInTurns rows s t p q e.0 = record { before = last.aimed; part = n; turns = aimed_turns rows s p u last.aimed n turns last.aims; turn = last.turn; last = aimed_turn rows u t n q true last; ended = e.1 } in
-    let run = near_turns_run rows s t p q e.0 runs in
+    let runs : NearRunsInTurns most_rows s t newcomer q e.0 = record { before = last.aimed; part = n; turns = aimed_turns most_rows s newcomer u last.aimed n turns last.aims; turn = last.turn; last = aimed_turn most_rows u t n q true last; ended = e.1 } in
+    let run = near_turns_run most_rows s t newcomer q e.0 runs in
+    let drawn : BeginsNear begins.instance o.gap o.conflicts (draws_of o.seed (near_stream number)) s =
+    subst (λ (g : Lcg). BeginsNear begins.instance o.gap o.conflicts g s) (sym begins.is.draws_are ∙ draws) begins.is in
     let instance : t.search.instance ≡ begins.instance = run.setting.instance ∙ ap (λ (x : Search). x.instance) begins.is.search in
     record {
       end = e.0;
       over = run.phase;
-      honest = subst (λ (x : CpModel). IsHonestEnding x gap conflicts q.bounds (ending kinds.Near None e.0 t.search)) begins.first.model
-          (near_honest begins.instance gap conflicts rows begins.draws s t p q e.0 begins.is runs offered raised);
+      honest = subst (λ (x : CpModel). IsHonestEnding x o.gap o.conflicts q.bounds (ending kinds.Near None e.0 t.search)) begins.first.model
+          (near_honest begins.instance o.gap o.conflicts most_rows begins.draws s t newcomer q e.0 begins.is runs refl refl);
       sums = ap (λ (x : Problem). x.defs) instance ∙ begins.first.sums;
       goes = record {
         instance = begins.instance;
@@ -355,30 +359,30 @@ near_done m gap conflicts rows s u t p n q begins turns last offered raised =
         guide = tt;
         decisions = tt;
         cores = λ is. absurd (cc is);
-        rounds = λ is. record { rows = rows; draws = begins.draws; first = s; begins = begins.is; done = t; before = p; after = q; runs = runs; seen = refl };
+        rounds = λ is. record { first = s; begins = drawn; done = t; after = q; runs = runs; seen = refl };
       };
     }
 
-done_by : (m : CpModel) (gap conflicts rows : ℕ) (s u t : AnySearch) (p n q : Part) → BeginsAs m gap conflicts s → TakesTurnsAs rows s u p n → HasTurned rows u t n q true → p.bounds.offered ≡ Infinite → p.bounds.raised ≡ None
-    → IsHonestlyDone m gap conflicts q.bounds t
-done_by m gap conflicts rows (by_brancher k g s) (by_brancher l h u) (by_brancher o i t) p n q begins turns last offered raised =
-    subst (λ (x : WorkerKind). IsHonestlyDone m gap conflicts q.bounds (by_brancher x i t)) (sym (last.0 ∙ turns.0))
-    (guided_done m gap conflicts rows k g h i s u t p n q begins turns.1 last.1 offered raised)
-done_by m gap conflicts rows (by_cores g s) (by_cores h u) (by_cores i t) p n q begins turns last offered raised =
-    core_done m gap conflicts rows g h i s u t p n q begins turns last offered raised
-done_by m gap conflicts rows (in_rounds s) (in_rounds u) (in_rounds t) p n q begins turns last offered raised = near_done m gap conflicts rows s u t p n q begins turns last offered raised
-done_by m gap conflicts rows (by_brancher k g s) (by_brancher l h u) (by_cores i t) p n q begins turns last offered raised = absurd last
-done_by m gap conflicts rows (by_brancher k g s) (by_brancher l h u) (in_rounds t) p n q begins turns last offered raised = absurd last
-done_by m gap conflicts rows (by_brancher k g s) (by_cores h u) t p n q begins turns last offered raised = absurd turns
-done_by m gap conflicts rows (by_brancher k g s) (in_rounds u) t p n q begins turns last offered raised = absurd turns
-done_by m gap conflicts rows (by_cores g s) (by_cores h u) (by_brancher o i t) p n q begins turns last offered raised = absurd last
-done_by m gap conflicts rows (by_cores g s) (by_cores h u) (in_rounds t) p n q begins turns last offered raised = absurd last
-done_by m gap conflicts rows (by_cores g s) (by_brancher l h u) t p n q begins turns last offered raised = absurd turns
-done_by m gap conflicts rows (by_cores g s) (in_rounds u) t p n q begins turns last offered raised = absurd turns
-done_by m gap conflicts rows (in_rounds s) (in_rounds u) (by_brancher o i t) p n q begins turns last offered raised = absurd last
-done_by m gap conflicts rows (in_rounds s) (in_rounds u) (by_cores i t) p n q begins turns last offered raised = absurd last
-done_by m gap conflicts rows (in_rounds s) (by_brancher l h u) t p n q begins turns last offered raised = absurd turns
-done_by m gap conflicts rows (in_rounds s) (by_cores h u) t p n q begins turns last offered raised = absurd turns
+done_by : (m : CpModel) (o : Options) (number : ℕ) (s u t : AnySearch) (n q : Part) → BeginsAs m o.gap o.conflicts s → DrawsBy o.seed number s → TakesTurnsAs most_rows s u newcomer n → HasTurned most_rows u t n q true
+    → IsHonestlyDone m o number q.bounds t
+done_by m o number (by_brancher k g s) (by_brancher l h u) (by_brancher r i t) n q begins draws turns last =
+    subst (λ (x : WorkerKind). IsHonestlyDone m o number q.bounds (by_brancher x i t)) (sym (last.0 ∙ turns.0))
+    (guided_done m o number k g h i s u t n q begins turns.1 last.1)
+done_by m o number (by_cores g s) (by_cores h u) (by_cores i t) n q begins draws turns last =
+    core_done m o number g h i s u t n q begins turns last
+done_by m o number (in_rounds s) (in_rounds u) (in_rounds t) n q begins draws turns last = near_done m o number s u t n q begins draws turns last
+done_by m o number (by_brancher k g s) (by_brancher l h u) (by_cores i t) n q begins draws turns last = absurd last
+done_by m o number (by_brancher k g s) (by_brancher l h u) (in_rounds t) n q begins draws turns last = absurd last
+done_by m o number (by_brancher k g s) (by_cores h u) t n q begins draws turns last = absurd turns
+done_by m o number (by_brancher k g s) (in_rounds u) t n q begins draws turns last = absurd turns
+done_by m o number (by_cores g s) (by_cores h u) (by_brancher r i t) n q begins draws turns last = absurd last
+done_by m o number (by_cores g s) (by_cores h u) (in_rounds t) n q begins draws turns last = absurd last
+done_by m o number (by_cores g s) (by_brancher l h u) t n q begins draws turns last = absurd turns
+done_by m o number (by_cores g s) (in_rounds u) t n q begins draws turns last = absurd turns
+done_by m o number (in_rounds s) (in_rounds u) (by_brancher r i t) n q begins draws turns last = absurd last
+done_by m o number (in_rounds s) (in_rounds u) (by_cores i t) n q begins draws turns last = absurd last
+done_by m o number (in_rounds s) (by_brancher l h u) t n q begins draws turns last = absurd turns
+done_by m o number (in_rounds s) (by_cores h u) t n q begins draws turns last = absurd turns
 
-pub done_from : (m : CpModel) (gap conflicts rows : ℕ) (s t : AnySearch) (p q : Part) → BeginsAs m gap conflicts s → p.bounds.offered ≡ Infinite → p.bounds.raised ≡ None → HasEnded rows s t p q → IsHonestlyDone m gap conflicts q.bounds t
-done_from m gap conflicts rows s t p q begins offered raised h = done_by m gap conflicts rows s h.before t p h.part q begins h.turns h.last offered raised
+pub done_from : (m : CpModel) (o : Options) (number : ℕ) (s t : AnySearch) (q : Part) → BeginsAs m o.gap o.conflicts s → DrawsBy o.seed number s → HasEnded most_rows s t newcomer q → IsHonestlyDone m o number q.bounds t
+done_from m o number s t q begins draws h = done_by m o number s h.before t h.part q begins draws h.turns h.last

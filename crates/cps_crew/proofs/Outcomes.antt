@@ -27,7 +27,7 @@ use Rattle.cps_search.proofs.Bounds.{greater-second}
 use Rattle.cps_crew.proofs.Deciding.{decides}
 use Rattle.cps_options.specs.declared.options.Options.{Options}
 use Rattle.cps_crew.specs.declared.outcome.Outcome.{Outcome}
-use Rattle.cps_crew.specs.Outcomes.{IsGoodOutcome, GoesByModel, HasSums, DidItsPart, DidItsPartAs, SpentItsBudget, EndedWithin, CameTo, better, best_of, core_if, core_of, greatest_raised}
+use Rattle.cps_crew.specs.Outcomes.{IsGoodOutcome, HasSums, DidItsPart, DidItsPartAs, SpentItsBudget, EndedWithin, CameTo, better, best_of, core_if, core_of, greatest_raised}
 
 -- ---- bounds that meet
 
@@ -166,22 +166,22 @@ infeasible_top (At u) lower gap e = absurd (not_infeasible (is_closed lower (At 
 
 -- ---- the outcome
 
-pub all_found : (m : CpModel) (gap conflicts workers : ℕ) (upper lower : Bound) (es : List Ending) → CameTo m gap conflicts workers upper lower es → All (λ (e : Ending). IfSome e.best (IsSolution m)) es
-all_found m gap conflicts workers upper lower es h = All-weaker (EndedWithin m gap conflicts upper lower) (λ (e : Ending). IfSome e.best (IsSolution m)) (λ e k. k.ended.best) es h.each
+pub all_found : (m : CpModel) (options : Options) (upper lower : Bound) (es : List Ending) → CameTo m options upper lower es → All (λ (e : Ending). IfSome e.best (IsSolution m)) es
+all_found m options upper lower es h = All-weaker (EndedWithin m options.gap options.conflicts upper lower) (λ (e : Ending). IfSome e.best (IsSolution m)) (λ e k. k.ended.best) es h.each
 
-apart_parts : (m : CpModel) (options : Options) (o : Outcome) → CameTo m options.gap options.conflicts options.workers o.upper o.lower o.ends → is_closed o.lower o.upper options.gap ≡ false → All (DidItsPart m options.conflicts o.upper) o.ends
+apart_parts : (m : CpModel) (options : Options) (o : Outcome) → CameTo m options o.upper o.lower o.ends → is_closed o.lower o.upper options.gap ≡ false → All (DidItsPart m options.conflicts o.upper) o.ends
 apart_parts m options o h apart i d l =
     let raised = subst (λ (b : Bound). All (RaisedBelow b) o.ends) (sym h.lower_is) (raised_in (At (objective_start m)) o.ends) in
     spent_apart m options.gap options.conflicts o.upper o.lower _ (h.each i d l) (raised i d l) apart
 
-pub good_outcome : (m : CpModel) (options : Options) (o : Outcome) → CameTo m options.gap options.conflicts options.workers o.upper o.lower o.ends → o.status ≡ status_of o.upper o.lower options.gap → o.solution ≡ best_of m o.ends → o.core ≡ core_of o.ends
+pub good_outcome : (m : CpModel) (options : Options) (o : Outcome) → CameTo m options o.upper o.lower o.ends → o.status ≡ status_of o.upper o.lower options.gap → o.solution ≡ best_of m o.ends → o.core ≡ core_of o.ends
     → 1 ≤ options.workers → IsGoodOutcome m options o
 good_outcome m options o h status solution core some = record {
   workers = h.kinds;
   sums = All-weaker (EndedWithin m options.gap options.conflicts o.upper o.lower) (λ (e : Ending). HasSums e.kind m e.defs) (λ e k. k.sums) o.ends h.each;
-  branchers = All-weaker (EndedWithin m options.gap options.conflicts o.upper o.lower) (GoesByModel m options.gap options.conflicts) (λ e k. k.goes) o.ends h.each;
+  branchers = h.goes;
   status = status;
-  found = all_found m options.gap options.conflicts options.workers o.upper o.lower o.ends h;
+  found = all_found m options o.upper o.lower o.ends h;
   solution = solution;
   upper = h.upper_is ∙ ap (best_bound m) (sym solution);
   lower = h.lower_is;
@@ -193,8 +193,7 @@ good_outcome m options o h status solution core some = record {
   spent = apart_parts m options o h;
   decides = decides m options o some h.kinds
       (All-weaker (EndedWithin m options.gap options.conflicts o.upper o.lower) (λ (e : Ending). HasSums e.kind m e.defs) (λ e k. k.sums) o.ends h.each)
-      (All-weaker (EndedWithin m options.gap options.conflicts o.upper o.lower) (GoesByModel m options.gap options.conflicts) (λ e k. k.goes) o.ends h.each)
-      status (apart_parts m options o h);
+      h.goes status (apart_parts m options o h);
 }
 
 -- ---- the first of the best solutions

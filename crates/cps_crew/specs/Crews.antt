@@ -1,8 +1,7 @@
 -- Seats at the shared tables, before workers search there and after it, and what the seats knew together.
-use Rattle.std.specs.Prelude.{◌≡◌, ◌↔◌, ℕ, ◌<◌, Bool, IsTrue, IfSome, length, List, All, slice_index_or, map, None}
+use Rattle.std.specs.Prelude.{◌≡◌, ◌↔◌, ℕ, ◌+◌, ◌<◌, Bool, IsTrue, IfSome, length, List, All, slice_index_or, map}
 use Rattle.std.specs.List.{range_with_len}
 use Rattle.cps_model.specs.declared.bound.Bound.{Bound}
-use Rattle.cps_model.specs.declared.bound.Bound.TheVariants.{Infinite}
 use Rattle.cps_model.specs.declared.model.CpModel.{CpModel}
 use Rattle.cps_bounds.specs.declared.seats.Bounds.{Bounds}
 use Rattle.cps_board.specs.declared.seats.Board.{Board}
@@ -10,6 +9,7 @@ use Rattle.cps_bounds.specs.Seats as words
 use Rattle.cps_board.specs.Seats as boards
 use Rattle.cps_port.specs.declared.part.BoundsPart.{BoundsPart}
 use Rattle.cps_port.specs.declared.part.Part.{Part}
+use Rattle.cps_port.specs.Parts.{newcomer}
 use Rattle.cps_port.specs.Order.{BoundLe, IsNoLower, raised_above}
 use Rattle.cps_search.specs.declared.end.End.{End}
 use Rattle.cps_search.specs.declared.end.Phase.TheVariants.{Over}
@@ -33,13 +33,12 @@ words_part c = words.part_of c.port.bounds_seat
 abbrev pub words_splits : Seated → ℕ
 words_splits c = words.splits_of c.port.bounds_seat
 
--- seats of this number at the two tables, that have offered and raised nothing
+-- seats of this number at the two tables, that know nothing
 pub record IsSeated (board : Board) (bounds : Bounds) (number : ℕ) (c : Seated) : Type 0 where
   pub number_is : c.number ≡ number
   pub board_is : c.port.board.now ≡ board
   pub bounds_is : c.port.bounds.now ≡ bounds
-  pub offered : (words_part c).offered ≡ Infinite
-  pub raised : (words_part c).raised ≡ None
+  pub new : part_at c ≡ newcomer
 
 -- seats of so many workers, by number
 pub record IsCrew (board : Board) (bounds : Bounds) (crew : List Seated) : Type 0 where
@@ -82,46 +81,45 @@ pub record Worked (m : CpModel) (o : Options) (a b : Seated) : Type 0 where
 
 -- ---- workers that have ended
 
--- a worker that ended honestly, by its guidance, its cores or its rounds
-pub record IsHonestlyDone (m : CpModel) (gap conflicts : ℕ) (q : BoundsPart) (s : AnySearch) : Type 0 where
+-- the worker of this number ended honestly, by its guidance, its cores or its rounds
+pub record IsHonestlyDone (m : CpModel) (o : Options) (number : ℕ) (q : BoundsPart) (s : AnySearch) : Type 0 where
   pub end : End
   pub over : (search_in s).phase ≡ Over end
-  pub honest : IsHonestEnding m gap conflicts q (ending_in s end)
+  pub honest : IsHonestEnding m o.gap o.conflicts q (ending_in s end)
   pub sums : HasSums (kind_in s) m (search_in s).instance.defs
-  pub goes : GoesByModel m gap conflicts (ending_in s end)
+  pub goes : GoesByModel m o number (ending_in s end)
 
 -- the worker of this number as it is seen after it ended honestly
-pub record IsHonestEnd (m : CpModel) (gap conflicts : ℕ) (q : BoundsPart) (number : ℕ) (e : Ending) : Type 0 where
+pub record IsHonestEnd (m : CpModel) (o : Options) (q : BoundsPart) (number : ℕ) (e : Ending) : Type 0 where
   pub kind : e.kind ≡ worker_kind number
-  pub honest : IsHonestEnding m gap conflicts q e
+  pub honest : IsHonestEnding m o.gap o.conflicts q e
   pub sums : HasSums e.kind m e.defs
-  pub goes : GoesByModel m gap conflicts e
+  pub goes : GoesByModel m o number e
 
 -- the worker of this number has ended honestly, or ran out of memory
-pub record HasReturned (m : CpModel) (gap conflicts : ℕ) (board : Board) (bounds : Bounds) (number : ℕ)
-    (c : Seated) : Type 0 where
+pub record HasReturned (m : CpModel) (o : Options) (board : Board) (bounds : Bounds) (number : ℕ) (c : Seated)
+    : Type 0 where
   pub board_is : c.port.board.now ≡ board
   pub bounds_is : c.port.bounds.now ≡ bounds
-  pub done : IfSome c.ended (IsHonestEnd m gap conflicts (words_part c) number)
+  pub done : IfSome c.ended (IsHonestEnd m o (words_part c) number)
 
-pub record HaveReturned (m : CpModel) (gap conflicts : ℕ) (board : Board) (bounds : Bounds) (crew : List Seated)
+pub record HaveReturned (m : CpModel) (o : Options) (board : Board) (bounds : Bounds) (crew : List Seated)
     : Type 0 where
-  pub each : (i : ℕ) (d : Seated) → i < length crew
-      → HasReturned m gap conflicts board bounds i (slice_index_or crew i d)
+  pub each : (i : ℕ) (d : Seated) → i < length crew → HasReturned m o board bounds i (slice_index_or crew i d)
 
 -- a worker ended honestly, and saw nothing better than what a seat knows
 pub record EndedSeen (m : CpModel) (gap conflicts : ℕ) (k : BoundsPart) (e : Ending) : Type 0 where
   pub part : BoundsPart
   pub ended : IsHonestEnding m gap conflicts part e
   pub sums : HasSums e.kind m e.defs
-  pub goes : GoesByModel m gap conflicts e
   pub above : BoundLe k.saw_upper part.saw_upper
   pub below : (b : Bound) → IsNoLower k.saw_lower b → IsNoLower part.saw_lower b
 
 -- the ends of so many workers, from one number on, whose seats were joined to one that had offered and raised nothing
-pub record AreGathered (m : CpModel) (gap conflicts first count : ℕ) (k : BoundsPart) (ends : List Ending)
+pub record AreGathered (m : CpModel) (o : Options) (first count : ℕ) (k : BoundsPart) (ends : List Ending)
     : Type 0 where
   pub kinds : map (λ (e : Ending). e.kind) ends ≡ map worker_kind (range_with_len first count)
   pub offered : k.offered ≡ best_bound m (best_of m ends)
   pub raised : (start : Bound) → raised_above k.raised start ≡ greatest_raised start ends
-  pub each : All (EndedSeen m gap conflicts k) ends
+  pub each : All (EndedSeen m o.gap o.conflicts k) ends
+  pub goes : (i : ℕ) (d : Ending) → i < length ends → GoesByModel m o (first + i) (slice_index_or ends i d)

@@ -1,5 +1,5 @@
 -- What the outcome of a search says of its model.
-use Rattle.std.specs.Prelude.{◌≡◌, ◌≤◌, ⊤, ℕ, false, if◌then◌else◌, ℤ, int_lt, Option, Some, None, IfSome, List, [], ◌∷◌, ◌++◌, map, All}
+use Rattle.std.specs.Prelude.{◌≡◌, ◌<◌, ◌≤◌, ⊤, ℕ, false, if◌then◌else◌, ℤ, int_lt, Option, Some, None, IfSome, List, [], ◌∷◌, ◌++◌, length, slice_index_or, map, All}
 use Rattle.std.specs.List.{range_with_len}
 use Rattle.rand_pcg.specs.Lcg.{Lcg}
 use Rattle.cps_model.specs.declared.model.CpModel.{CpModel}
@@ -14,6 +14,8 @@ use Rattle.cps_instance.specs.Strategies.{model_sums}
 use Rattle.cps_instance.specs.Sums.{DefinedSum}
 use Rattle.cps_port.specs.declared.part.BoundsPart.{BoundsPart}
 use Rattle.cps_port.specs.declared.part.Part.{Part}
+use Rattle.cps_port.specs.Entries.{most_rows}
+use Rattle.cps_port.specs.Parts.{newcomer}
 use Rattle.cps_port.specs.Order.{BoundLe, IsNoLower, raised_above}
 use Rattle.cps_port.specs.Incumbents.{IsLowerBound}
 use Rattle.cps_clauses.specs.declared.journal.JournalItem.TheVariants.{Learnt}
@@ -23,17 +25,20 @@ use Rattle.cps_search.specs.declared.end.End.{End}
 use Rattle.cps_search.specs.declared.end.End.TheVariants.{Exhausted, SawClosed, Spent, RoundsDone}
 use Rattle.cps_model.specs.declared.status.Status.TheVariants.{Infeasible}
 use Rattle.cps_search.specs.Assumptions.{IsSufficient}
-use Rattle.cps_search.specs.Searches.{IsHonestJournal, IsItemAbove, learnt_count}
+use Rattle.cps_search.specs.Searches.{Search, IsHonestJournal, IsItemAbove, learnt_count}
 use Rattle.cps_search.specs.Ends.{Ending, IsHonestEnding, ending, round_count}
 use Rattle.cps_search.specs.Following.{best_bound}
-use Rattle.cps_search.specs.Guided.{IsEndOfRun, IsGuidedBy}
-use Rattle.cps_branch.specs.Guidances.{Branching}
+use Rattle.cps_search.specs.Guided.{IsGuidedBy, RunsBy}
+use Rattle.cps_search.specs.Moves.{fresh}
+use Rattle.cps_branch.specs.declared.guidance.Guidance.{Guidance}
+use Rattle.cps_branch.specs.Guidances.{Branching, IsIdle, guidance_of}
 use Rattle.cps_core_guided.specs.Reforming.{CoreSearch}
 use Rattle.cps_core_guided.specs.CoreTurns.{core_ending}
+use Rattle.cps_neighbourhood.specs.Drawing.{draws_of}
 use Rattle.cps_neighbourhood.specs.Nears.{Near, BeginsNear, NearRunsInTurns}
 use Rattle.cps_options.specs.declared.options.Options.{Options}
 use Rattle.cps_crew.specs.declared.outcome.Outcome.{Outcome}
-use Rattle.cps_crew.specs.Workers.{worker_kind, BeginsByCores, RunsByCores}
+use Rattle.cps_crew.specs.Workers.{worker_kind, near_stream, BeginsByCores, RunsByCores}
 use Rattle.cps_crew.specs.Deciding.{DecidesWhereEnough}
 
 -- the kinds of the workers by number
@@ -111,32 +116,39 @@ DidItsPartAs kinds.Near m conflicts upper e = DidItsRounds m conflicts upper e
 abbrev pub DidItsPart : CpModel → ℕ → Bound → Ending → Type 0
 DidItsPart m conflicts upper e = DidItsPartAs e.kind m conflicts upper e
 
+-- ---- what is seen of a worker that began with nothing known, at a board with all its rows
+
+-- A worker that ended is seen as a run leaves it whose brancher has this guidance and had heard nothing.
+pub record IsEndOfRun (p : Problem) (gap budget : ℕ) (guidance : Guidance) (e : Ending) : Type 0 where
+  pub first : Branching
+  pub idle : IsIdle first
+  pub guided : guidance_of first ≡ guidance
+  pub last : Branching
+  pub done : Search
+  pub after : Part
+  pub runs : RunsBy most_rows (fresh p gap (Some budget), first) (done, last) newcomer after e.end
+  pub seen : e ≡ ending e.kind (Some guidance) e.end done
+
 -- A neighbourhood worker that ended is seen as turns in rounds leave it, if they began with the model's hint and with
--- nothing else known.
-pub record IsEndOfRounds (p : Problem) (gap conflicts : ℕ) (e : Ending) : Type 0 where
-  pub rows : ℕ
-  pub draws : Lcg
+-- these draws.
+pub record IsEndOfRounds (p : Problem) (gap conflicts : ℕ) (draws : Lcg) (e : Ending) : Type 0 where
   pub first : Near
   pub begins : BeginsNear p gap conflicts draws first
   pub done : Near
-  pub before : Part
   pub after : Part
-  pub runs : NearRunsInTurns rows first done before after e.end
+  pub runs : NearRunsInTurns most_rows first done newcomer after e.end
   pub seen : e ≡ ending kinds.Near None e.end done.search
 
--- What is seen of a core-guided worker that ended is what turns come to that began with nothing known but the
--- objective's first form, over an instance of the model; where nothing is left to assume, they go by activity, at the
--- model's hint.
+-- What is seen of a core-guided worker that ended is what turns come to that began with the objective's first form,
+-- over an instance of the model; where nothing is left to assume, they go by activity, at the model's hint.
 pub record IsEndOfCores (m : CpModel) (gap conflicts : ℕ) (e : Ending) : Type 0 where
-  pub rows : ℕ
   pub first : CoreSearch
   pub idle : Branching
   pub begins : BeginsByCores m gap conflicts idle first
   pub done : CoreSearch
   pub last : Branching
-  pub before : Part
   pub after : Part
-  pub runs : RunsByCores rows (first, idle) (done, last) before after e.end
+  pub runs : RunsByCores most_rows (first, idle) (done, last) newcomer after e.end
   pub seen : e ≡ core_ending e.end done
 
 -- The sums that a worker of a kind defined are those that the model writes; only a core-guided one defines more, for
@@ -147,19 +159,20 @@ HasSums kinds.Activity m defs = defs ≡ model_sums m
 HasSums kinds.CoreGuided m defs = ⊤
 HasSums kinds.Near m defs = defs ≡ model_sums m
 
--- A worker that ended went by what the model says, over an instance with the worker's sums: what is seen of one with a
--- brancher is what a run comes to that begins with nothing known, and whose decisions and restarts are the brancher's;
--- what is seen of a core-guided worker is what its reforms and decisions come to; and what is seen of a neighbourhood
--- worker is what its rounds come to.
-pub record GoesByModel (m : CpModel) (gap conflicts : ℕ) (e : Ending) : Type 0 where
+-- The worker of this number went by what the model says, over an instance with the worker's sums: what is seen of one
+-- with a brancher is what a run comes to whose decisions and restarts are the brancher's; what is seen of a core-guided
+-- worker is what its reforms and decisions come to; and what is seen of a neighbourhood worker is what its rounds come
+-- to, which draw by the seed and its number.
+pub record GoesByModel (m : CpModel) (options : Options) (number : ℕ) (e : Ending) : Type 0 where
   pub instance : Problem
   pub is_instance : IsInstance instance
   pub model : instance.model ≡ m
   pub sums : instance.defs ≡ e.defs
   pub guide : IsGuidedBy e.kind instance e.guidance
-  pub decisions : IfSome e.guidance (λ guidance. IsEndOfRun instance gap conflicts guidance e)
-  pub cores : e.kind ≡ kinds.CoreGuided → IsEndOfCores m gap conflicts e
-  pub rounds : e.kind ≡ kinds.Near → IsEndOfRounds instance gap conflicts e
+  pub decisions : IfSome e.guidance (λ guidance. IsEndOfRun instance options.gap options.conflicts guidance e)
+  pub cores : e.kind ≡ kinds.CoreGuided → IsEndOfCores m options.gap options.conflicts e
+  pub rounds : e.kind ≡ kinds.Near
+      → IsEndOfRounds instance options.gap options.conflicts (draws_of options.seed (near_stream number)) e
 
 pub record IsGoodOutcome (m : CpModel) (options : Options) (o : Outcome) : Type 0 where
   -- each worker ended, and is of the kind that its number says, with the sums that the model writes and, but for a
@@ -168,8 +181,9 @@ pub record IsGoodOutcome (m : CpModel) (options : Options) (o : Outcome) : Type 
   pub sums : All (λ e. HasSums e.kind m e.defs) o.ends
   -- a fixed worker decides by the model's strategies and then takes the variables, and never restarts; an activity
   -- worker takes the most active variable, at the model's hint, and restarts by its pace, and a core-guided worker does
-  -- so after its assumptions; a neighbourhood worker decides in rounds and then so
-  pub branchers : All (GoesByModel m options.gap options.conflicts) o.ends
+  -- so after its assumptions; a neighbourhood worker decides in rounds, which it draws by the seed and its number, and
+  -- then so
+  pub branchers : (i : ℕ) (d : Ending) → i < length o.ends → GoesByModel m options i (slice_index_or o.ends i d)
   -- the status is that of the two bounds
   pub status : o.status ≡ status_of o.upper o.lower options.gap
   -- what a worker found is a solution, the outcome's is the best of these, and the upper bound is its objective
@@ -194,14 +208,15 @@ pub record EndedWithin (m : CpModel) (gap conflicts : ℕ) (upper lower : Bound)
   pub part : BoundsPart
   pub ended : IsHonestEnding m gap conflicts part e
   pub sums : HasSums e.kind m e.defs
-  pub goes : GoesByModel m gap conflicts e
   pub above : BoundLe upper part.saw_upper
   pub below : IsNoLower part.saw_lower lower
 
--- What all workers came to: the words are what they found and raised, and each of them ended within the words.
-pub record CameTo (m : CpModel) (gap conflicts workers : ℕ) (upper lower : Bound) (ends : List Ending) : Type 0 where
-  pub kinds : map (λ (e : Ending). e.kind) ends ≡ kinds_of workers
+-- What all workers came to: the words are what they found and raised, and each of them went by the model and ended
+-- within the words.
+pub record CameTo (m : CpModel) (options : Options) (upper lower : Bound) (ends : List Ending) : Type 0 where
+  pub kinds : map (λ (e : Ending). e.kind) ends ≡ kinds_of options.workers
   pub upper_is : upper ≡ best_bound m (best_of m ends)
   pub lower_is : lower ≡ greatest_raised (At (objective_start m)) ends
   pub floor : IsLowerBound m lower
-  pub each : All (EndedWithin m gap conflicts upper lower) ends
+  pub each : All (EndedWithin m options.gap options.conflicts upper lower) ends
+  pub goes : (i : ℕ) (d : Ending) → i < length ends → GoesByModel m options i (slice_index_or ends i d)

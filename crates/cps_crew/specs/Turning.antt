@@ -5,6 +5,7 @@ use Rattle.rand_pcg.specs.Pcg.{multiplier_64, pcg32}
 use Rattle.cps_model.specs.declared.model.CpModel.{CpModel}
 use Rattle.cps_options.specs.declared.options.Options.{Options}
 use Rattle.cps_port.specs.declared.part.Part.{Part}
+use Rattle.cps_port.specs.Entries.{most_rows}
 use Rattle.cps_port.specs.Parts.{newcomer}
 use Rattle.cps_port.specs.Shared.{Shared, part_at, first_shared}
 use Rattle.cps_port.specs.Others.{ActsAlone}
@@ -20,24 +21,23 @@ use Rattle.cps_crew.specs.Crews.{IsHonestlyDone}
 
 -- ---- workers that have turns left
 
--- a worker that may take a turn: it took its turns so far on a board of so many rows
-pub record AtWork (m : CpModel) (gap conflicts rows : ℕ) (s : AnySearch) (q : Part) : Type 0 where
+-- the worker of this number, which may take a turn: it knew nothing at first, and took its turns so far
+pub record AtWork (m : CpModel) (o : Options) (number : ℕ) (s : AnySearch) (q : Part) : Type 0 where
   pub first : AnySearch
-  pub begins : BeginsAs m gap conflicts first
-  pub turns : TakesTurnsAs rows first s newcomer q
+  pub begins : BeginsAs m o.gap o.conflicts first
+  pub draws : DrawsBy o.seed number first
+  pub turns : TakesTurnsAs most_rows first s newcomer q
   pub running : IsOver (search_in s).phase → ⊥
 
 module _ {W : Type 0} (known : W → AnySearch) where
   -- the worker of this number is at work, or has ended honestly
-  pub record IsTurning (m : CpModel) (gap conflicts rows : ℕ) (c : Shared) (number : ℕ) (w : Turning W)
-      : Type 0 where
+  pub record IsTurning (m : CpModel) (o : Options) (c : Shared) (number : ℕ) (w : Turning W) : Type 0 where
     pub kind : kind_in (known w.worker) ≡ worker_kind number
-    pub at_work : w.over ≡ false → AtWork m gap conflicts rows (known w.worker) (part_at c number)
-    pub done : w.over ≡ true → IsHonestlyDone m gap conflicts (part_at c number).bounds (known w.worker)
+    pub at_work : w.over ≡ false → AtWork m o number (known w.worker) (part_at c number)
+    pub done : w.over ≡ true → IsHonestlyDone m o number (part_at c number).bounds (known w.worker)
 
-  pub record AreTurning (m : CpModel) (gap conflicts rows : ℕ) (c : Shared) (crew : List (Turning W)) : Type 0 where
-    pub each : (i : ℕ) (d : Turning W) → i < length crew
-        → IsTurning m gap conflicts rows c i (slice_index_or crew i d)
+  pub record AreTurning (m : CpModel) (o : Options) (c : Shared) (crew : List (Turning W)) : Type 0 where
+    pub each : (i : ℕ) (d : Turning W) → i < length crew → IsTurning m o c i (slice_index_or crew i d)
 
   -- the worker of this number, which knows nothing yet; where it draws, it does so by the seed and its number
   pub record IsFresh (m : CpModel) (gap conflicts seed number : ℕ) (w : Turning W) : Type 0 where

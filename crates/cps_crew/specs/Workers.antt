@@ -119,11 +119,15 @@ BeginsAs m gap conflicts (by_brancher kind b s) = BeginsGuided m gap conflicts k
 BeginsAs m gap conflicts (by_cores b s) = BeginsByCores m gap conflicts b s
 BeginsAs m gap conflicts (in_rounds n) = BeginsRounds m gap conflicts n
 
+-- the stream of the seed from which the worker of this number draws; which worker takes a turn is drawn from stream 0
+abbrev pub near_stream : ℕ → ℕ
+near_stream number = 16 + number
+
 -- one that goes in rounds draws by a generator of its own
 abbrev pub DrawsBy : ℕ → ℕ → AnySearch → Type 0
 DrawsBy seed number (by_brancher kind b s) = ⊤
 DrawsBy seed number (by_cores b s) = ⊤
-DrawsBy seed number (in_rounds n) = n.draws ≡ draws_of seed (16 + number)
+DrawsBy seed number (in_rounds n) = n.draws ≡ draws_of seed (near_stream number)
 
 -- ---- turns
 

@@ -81,8 +81,7 @@ pub fn outcome_of(
     reached: Reached,
 ) -> Result<Outcome, AllocError>
     requires some { 1 ≤ options.now.workers }
-    requires came { CameTo model.now options.now.gap options.now.conflicts options.now.workers
-        reached.upper reached.lower reached.ends.items }
+    requires came { CameTo model.now options.now reached.upper reached.lower reached.ends.items }
     ensures good { IfOk result (IsGoodOutcome model.now options.now) }
     ensures ends { IfOk result (λ o. o.ends ≡ reached.ends.items) }
 {

@@ -136,17 +136,16 @@ fn take_turns<W: Member>(
     requires idle { (i : ℕ) → (board_part port.old.core.now.board i).drawn ≡ None }
     requires pool { pool.old.model ≡ port.old.core.now.model }
     requires reads { IsTrue pool.old.is_read ↔ SearchesNear (length crew.old) }
-    requires crew { AreTurning W.known port.old.core.now.model options.now.gap options.now.conflicts
-        (length port.old.core.now.board.rows) port.old.core.now crew.old }
+    requires rows { length port.old.core.now.board.rows ≡ most_rows }
+    requires crew { AreTurning W.known port.old.core.now.model options.now port.old.core.now crew.old }
     ensures same { OnOk result (port.new.core.now.model ≡ port.old.core.now.model) }
     ensures count { OnOk result (actor_count port.new.core.now ≡ actor_count port.old.core.now) }
     ensures len { length crew.new ≡ length crew.old }
     ensures actors { actor_count port.old.core.now ≡ length crew.new }
-    ensures crew { OnOk result (AreTurning W.known port.old.core.now.model options.now.gap options.now.conflicts
-        (length port.old.core.now.board.rows) port.new.core.now crew.new) }
+    ensures crew { OnOk result (AreTurning W.known port.old.core.now.model options.now port.new.core.now crew.new) }
     ensures over { OnOk result (count_at_work crew.new ≡ 0) }
     ensures drawn { OnOk result ((words : Lcg)
-        × TakesDrawnTurns W.known (length port.old.core.now.board.rows) port.old.core.now crew.old
+        × TakesDrawnTurns W.known most_rows port.old.core.now crew.old
         (words_of_seed options.now.seed) port.new.core.now crew.new words) }
 {
     let mut words = Lcg64Xsh32::new(options.seed, 0);
@@ -180,7 +179,8 @@ fn finish_all<W: Member>(
 
 /// Solves a model: `options.workers` workers take turns until the bounds meet, or each has spent its budget or done its
 /// rounds. Each turn's worker is drawn among those that have not ended, in rising order, by a word of
-/// `Lcg64Xsh32::new(seed, 0)` modulo their number. So the same options give the same outcome.
+/// `Lcg64Xsh32::new(seed, 0)` modulo their number. That the same options give the same outcome is shown by a
+/// test.
 pub fn solve_in_turns<'a, W: Recruit<'a>>(
     alloc: Global,
     model: &'a ValidModel,

@@ -26,8 +26,9 @@ pub trait Member: Drop {
     // how many solutions the pool had when it was last handed one
     ghost handed: { Self → ℕ };
 
-    /// Takes one turn. Answers whether it was the worker's last. A solution that is found goes into the pool, and where
-    /// the worker searches near solutions it was handed the pool's last one before.
+    /// Takes one turn. Answers whether it was the worker's last. A solution that is found goes into the pool. A worker
+    /// that searches near solutions was handed the pool's last one before: so much is owed where all solutions come
+    /// through this value of the pool, as in turns.
     fn turn<Q: Port, F: Pool>(&mut self, port: &mut Q, pool: &mut F) -> Result<bool, AllocError>
         requires memory { (search_in (known self.old)).refused ≡ false }
         requires running { IsOver (search_in (known self.old)).phase → ⊥ }

@@ -4,13 +4,16 @@
 //! split back knows that the final bounds are exactly what the workers offered and raised, so the outcome is made from
 //! that pair. A worker that ran out of memory ends the run without an outcome, since nothing is known of how its search
 //! ended.
-ghost use Rattle.std.specs.Prelude.{ℕ, ◌≡◌, ◌+◌, ◌-◌, ◌/◌, ◌≤◌, vec_len, All, IfOk, OnOk, None};
+ghost use Rattle.std.specs.Prelude.{◌≡◌, ◌+◌, ◌-◌, ◌/◌, ◌≤◌, vec_len, All, IfOk, OnOk, None};
 ghost use Rattle.cps_model.specs.declared.model.CpModel.{CpModel};
+ghost use Rattle.cps_port.specs.Parts.{newcomer};
 ghost use Rattle.cps_port.specs.Totals.{total};
 ghost use Rattle.cps_board.specs.Seats as boards;
 ghost use Rattle.cps_bounds.specs.Seats as words;
 ghost use Rattle.cps_bounds.specs.Rule.{all_splits};
+ghost use Rattle.cps_options.specs.declared.options.Options.{Options as OptionsOf};
 ghost use Rattle.cps_options.specs.Ranges.{AreInRange};
+ghost use Rattle.cps_crew.specs.Ports.{part_of};
 ghost use Rattle.cps_crew.specs.Outcomes.{IsGoodOutcome};
 ghost use Rattle.cps_crew.specs.Crews.{words_splits, IsBackAt, IsSeated, IsCrew, HaveReturned, AreGathered};
 
@@ -34,8 +37,9 @@ use std::thread::Threads;
 /// Seats of this number, which take half of the splits that a port has left.
 fn seat<'t>(number: u32, kept: &mut TablePort<'t>) -> Seated<'t>
     requires room { (2 ≤ boards.splits_of kept.old.board_seat) × (2 ≤ words.splits_of kept.old.bounds_seat) }
+    requires knows_nothing { part_of kept.old.board_seat kept.old.bounds_seat ≡ newcomer }
     ensures tables { (kept.new.board.now ≡ kept.old.board.now) × (kept.new.bounds.now ≡ kept.old.bounds.now) }
-    ensures part { words.part_of kept.new.bounds_seat ≡ words.part_of kept.old.bounds_seat }
+    ensures part { part_of kept.new.board_seat kept.new.bounds_seat ≡ newcomer }
     ensures board_splits { boards.splits_of kept.new.board_seat
         ≡ boards.splits_of kept.old.board_seat - boards.splits_of kept.old.board_seat / 2 }
     ensures splits { words.splits_of kept.new.bounds_seat
@@ -59,9 +63,10 @@ fn seat_all<'t>(
     requires few { workers ≤ 16 }
     requires whole { (boards.splits_of kept.old.board_seat ≡ all_splits)
         × (words.splits_of kept.old.bounds_seat ≡ all_splits) }
+    requires knows_nothing { part_of kept.old.board_seat kept.old.bounds_seat ≡ newcomer }
     ensures tables { OnOk result ((kept.new.board.now ≡ kept.old.board.now)
         × (kept.new.bounds.now ≡ kept.old.bounds.now)) }
-    ensures part { OnOk result (words.part_of kept.new.bounds_seat ≡ words.part_of kept.old.bounds_seat) }
+    ensures part { OnOk result (part_of kept.new.board_seat kept.new.bounds_seat ≡ newcomer) }
     ensures splits { IfOk result (λ crew. words.splits_of kept.new.bounds_seat + total words_splits crew.items
         ≡ all_splits) }
     ensures count { IfOk result (λ crew. vec_len crew ≡ workers) }
@@ -87,9 +92,9 @@ fn gather<'t>(
     requires crew { All (IsBackAt kept.old.board.now kept.old.bounds.now) crew.items }
     ensures tables { (kept.new.board.now ≡ kept.old.board.now) × (kept.new.bounds.now ≡ kept.old.bounds.now) }
     ensures splits { OnOk result (words.splits_of kept.new.bounds_seat ≡ all_splits) }
-    ensures gathered { IfOk result (λ ends. (m : CpModel) (gap conflicts : ℕ)
-        → HaveReturned m gap conflicts kept.old.board.now kept.old.bounds.now crew.entry.items
-        → AreGathered m gap conflicts 0 (vec_len crew.entry) (words.part_of kept.new.bounds_seat) ends.items) }
+    ensures gathered { IfOk result (λ ends. (m : CpModel) (o : OptionsOf)
+        → HaveReturned m o kept.old.board.now kept.old.bounds.now crew.entry.items
+        → AreGathered m o 0 (vec_len crew.entry) (words.part_of kept.new.bounds_seat) ends.items) }
 {
     let mut ends = Vec::new(alloc);
     while let Some(seated) = crew.pop() {

@@ -1,8 +1,11 @@
 -- The first of a round's decisions that is open.
+use Rattle.std.specs.Prelude.{◌↔◌, ◌≢◌}
 use Rattle.std.proofs.Common.{◌≡◌, ◌∙◌, ◌⊎◌, inl, inr, ℕ, ◌+◌, ◌<◌, ◌≤◌, List, length, get_or, ap, sym, subst, arith}
 use Rattle.std.proofs.lemmas.List.{get_or_default}
 use Rattle.cps_literal.specs.declared.atom.Atom.{Atom}
-use Rattle.cps_trail.specs.Trail.{Trail}
+use Rattle.cps_literal.specs.declared.atom.Truth.{Truth}
+use Rattle.cps_literal.specs.declared.atom.Truth.TheVariants.{Yes, No}
+use Rattle.cps_trail.specs.Trail.{Trail, IsTrueNow, IsFalseNow}
 use Rattle.cps_branch.specs.Choice.{IsUndecided}
 use Rattle.cps_neighbourhood.specs.Rounds.{IsFirstOpenDecision}
 
@@ -11,6 +14,18 @@ earlier_or_last j n l = grind arith
 
 before_or_from : (j n : ℕ) → (j < n) ⊎ (n ≤ j)
 before_or_from j n = grind arith
+
+-- an atom is undecided where it is neither true nor false
+pub undecided : (s : Trail) (u : Atom) (t : Truth) → u.subject < length s.first → (t ≡ Yes) ↔ IsTrueNow s u → (t ≡ No) ↔ IsFalseNow s u → (t ≢ Yes) × (t ≢ No) → IsUndecided s u
+undecided s u t inside true_where false_where neither = record {
+  subject = inside;
+  not_true = λ holds. neither.0 (true_where.1 holds);
+  not_false = λ falls. neither.1 (false_where.1 falls);
+}
+
+-- and the other way round
+pub open-there : (s : Trail) (u : Atom) (t : Truth) → (t ≡ Yes) ↔ IsTrueNow s u → (t ≡ No) ↔ IsFalseNow s u → IsUndecided s u → (t ≢ Yes) × (t ≢ No)
+open-there s u t true_where false_where undecided = (λ yes. undecided.not_true (true_where.0 yes), λ no. undecided.not_false (false_where.0 no))
 
 -- what holds of the atom at a place, whichever atom stands for one beyond the list
 pub at_place : (P : Atom → Type 0) (ts : List Atom) (n : ℕ) (z : Atom) → P (get_or ts n z) → (d : Atom) → n < length ts → P (get_or ts n d)

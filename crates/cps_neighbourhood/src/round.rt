@@ -17,7 +17,7 @@ ghost use Rattle.cps_neighbourhood.specs.Standing.{begun, held_to, round_of, sol
 
 use crate::aim::Aim;
 use crate::draws::choose_free;
-use cps_literal::{Atom, Op, Truth};
+use cps_literal::{Atom, Op};
 use cps_trail::Store;
 use rand_pcg::Lcg64Xsh32;
 use std::alloc::{AllocError, Global};
@@ -114,19 +114,11 @@ fn first_open(store: &Store, decisions: &[Atom], from: usize) -> usize
         → IsUndecided store.now (slice_index_or decisions.now result d) }
 {
     for (place, atom) in decisions.iter().enumerate() {
-        if from <= place && is_open(store, *atom) {
+        if from <= place && store.truth(*atom).is_open() {
             return place;
         }
     }
     decisions.len()
-}
-
-/// Whether a store leaves an atom undecided.
-fn is_open(store: &Store, atom: Atom) -> bool
-    requires { atom.subject < length store.now.first }
-    ensures { IsTrue result ↔ IsUndecided store.now atom }
-{
-    matches!(store.truth(atom), Truth::Undecided)
 }
 
 impl Progress {

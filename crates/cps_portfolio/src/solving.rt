@@ -39,7 +39,8 @@ pub fn solve<R: Threads + Wait + Sync, G: Gate + Sync>(
 
 /// Solves a model: `options.workers` workers take turns until the bounds meet, or each has spent its budget or done its
 /// rounds. Each turn's worker is drawn among those that have not ended, in rising order, by a word of
-/// `Lcg64Xsh32::new(seed, 0)` modulo their number. So the same options give the same outcome.
+/// `Lcg64Xsh32::new(seed, 0)` modulo their number. That the same options give the same outcome is shown by a
+/// test.
 pub fn solve_interleaved(
     alloc: Global,
     model: &ValidModel,

@@ -213,7 +213,8 @@ fn core_turn_of<P: Defining, B: Brancher + Drop, Q: Port, F: Pool>(
     note_turn(pool, &turn, worker.best())
 }
 
-/// Hands a neighbourhood worker the pool's last solution, unless it was handed that one before.
+/// Hands a neighbourhood worker the pool's last solution, unless it was handed that one before. In threads, where others
+/// push meanwhile, the contract says only that it is a solution of the model.
 fn aim<P: Propagator, F: Pool>(near: &mut AimedWorker<'_, P>, pool: &F)
     requires memory { near.old.worker.search.refused ≡ false }
     requires pool { F.model pool.now ≡ near.old.worker.search.instance.model }
@@ -287,7 +288,7 @@ impl Member for AnyWorker<'_> {
 
     ghost handed = { handed_to };
 
-    /// A neighbourhood worker is handed the pool's last solution before its turn.
+    /// A neighbourhood worker is aimed before its turn.
     fn turn<Q: Port, F: Pool>(&mut self, port: &mut Q, pool: &mut F) -> Result<bool, AllocError> {
         match self {
             AnyWorker::Fixed(worker) => turn_of(worker, port, pool),

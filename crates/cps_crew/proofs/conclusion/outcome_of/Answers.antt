@@ -11,6 +11,6 @@ returns-clause-good c =
     let o = c.args.options.now in
     let r = c.args.reached in
     let same = c.from_vec.ensures in
-    good_outcome m o _ (subst (λ (es : List Ending). CameTo m o.gap o.conflicts o.workers r.upper r.lower es) (sym same) c.requires.came) c.status_of.ensures
+    good_outcome m o _ (subst (λ (es : List Ending). CameTo m o r.upper r.lower es) (sym same) c.requires.came) c.status_of.ensures
     (c.in_ok-solution.ensures ∙ ap (best_of m) c.as_slice.ensures.value ∙ ap (best_of m) (sym same))
     (c.in_ok-core.ensures ∙ ap core_of c.as_slice-2.ensures.value ∙ ap core_of (sym same)) c.requires.some

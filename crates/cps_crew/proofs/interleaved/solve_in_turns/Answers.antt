@@ -4,6 +4,7 @@ use Rattle.std.proofs.lemmas.Result.{IfOk-weaker}
 use Rattle.cps_model.specs.declared.model.CpModel.{CpModel}
 use Rattle.cps_model.specs.declared.bound.Bound.{Bound}
 use Rattle.cps_pool.specs.Pools.{Found}
+use Rattle.cps_port.specs.Entries.{most_rows}
 use Rattle.cps_port.specs.Shared.{Shared, actor_count, first_shared}
 use Rattle.cps_search.specs.Ends.{Ending, IsOver}
 use Rattle.cps_crew.specs.declared.interleaved.Turning.{Turning}
@@ -23,8 +24,11 @@ take_turns-turns-requires-clause-crew g c =
     let first = c.in_ok-core.ensures.first in
     let model : core.model ≡ m = ap (λ (x : Shared). x.model) first in
     let crew = subst (λ (l : List (Turning _)). AreFresh g.W.Member.known m o.gap o.conflicts o.seed l) (sym c.as_mut_slice.ensures.value) c.in_ok-crew.ensures.each in
-    subst (λ (x : CpModel). AreTurning g.W.Member.known x o.gap o.conflicts (length core.board.rows) core c.as_mut_slice.result.now) (sym model)
-    (all_fresh g.W.Member.known m o.gap o.conflicts o.seed (length core.board.rows) o.workers 4096 core c.as_mut_slice.result.now first crew)
+    subst (λ (x : CpModel). AreTurning g.W.Member.known x o core c.as_mut_slice.result.now) (sym model)
+    (all_fresh g.W.Member.known m o o.workers most_rows core c.as_mut_slice.result.now first crew)
+
+pub take_turns-turns-requires-clause-rows : goal.take_turns-turns-requires-clause-rows
+take_turns-turns-requires-clause-rows g c = ap (λ (x : Shared). length x.board.rows) c.in_ok-core.ensures.first ∙ first_rows c.args.model.now c.args.options.now.workers most_rows
 
 pub take_turns-turns-requires-clause-pool : goal.take_turns-turns-requires-clause-pool
 take_turns-turns-requires-clause-pool g c = ap (λ (x : Found). x.model) c.new-pool.ensures ∙ sym (ap (λ (x : Shared). x.model) c.in_ok-core.ensures.first)
@@ -47,7 +51,7 @@ finish_all-requires g c =
     let full : c.in_ok-crew.crew.len ≡ length xs = search rules in
     let w = written c.in_ok-crew.crew.len xs ys full len in
     let t = c.in_ok-turns.ensures in
-    subst (λ (l : List (Turning _)). All (λ (x : Turning _). IsOver (search_in (g.W.Member.known x.worker)).phase) l) (sym w) (each_over g.W.Member.known c.in_ok-core.core.model o.gap o.conflicts _ c.take_turns-turns.new.port.core.now ys t.crew t.over)
+    subst (λ (l : List (Turning _)). All (λ (x : Turning _). IsOver (search_in (g.W.Member.known x.worker)).phase) l) (sym w) (each_over g.W.Member.known c.in_ok-core.core.model o c.take_turns-turns.new.port.core.now ys t.crew t.over)
 
 pub outcome_of-requires-clause-some : goal.outcome_of-requires-clause-some
 outcome_of-requires-clause-some g c = c.requires.range.some_worker
@@ -66,17 +70,16 @@ outcome_of-requires-clause-came g c =
     let w = written c.in_ok-crew.crew.len xs ys full len in
     let t = c.in_ok-turns.ensures in
     let core = c.take_turns-turns.new.port.core.now in
-    let rows = length c.in_ok-core.core.board.rows in
     let workers : length ys ≡ o.workers = len ∙ sym full ∙ c.in_ok-crew.ensures.count in
     let actors : actor_count core ≡ length ys = t.count ∙ c.take_turns-turns.ensures.actors in
-    let turning = subst (λ (x : CpModel). AreTurning g.W.Member.known x o.gap o.conflicts rows core ys) model t.crew in
+    let turning = subst (λ (x : CpModel). AreTurning g.W.Member.known x o core ys) model t.crew in
     let ends : c.in_ok-ends.ends.items ≡ map (ended_of g.W.Member.known) ys = c.in_ok-ends.ensures ∙ ap (map (ended_of g.W.Member.known)) w in
-    let came = came_in_turns g.W.Member.known m o.gap o.conflicts rows o.workers core ys c.upper-upper.ensures.sound (t.same ∙ model) workers actors turning t.over in
+    let came = came_in_turns g.W.Member.known m o core ys c.upper-upper.ensures.sound (t.same ∙ model) workers actors turning t.over in
     let upper = c.upper-upper.ensures.bound in
     let lower : c.lower-lower.result ≡ core.bounds.lower = c.lower-lower.ensures in
-    subst (λ (es : List Ending). CameTo m o.gap o.conflicts o.workers c.upper-upper.result c.lower-lower.result es) (sym ends)
-    (subst (λ (u : Bound). CameTo m o.gap o.conflicts o.workers u c.lower-lower.result (map (ended_of g.W.Member.known) ys)) (sym upper)
-    (subst (λ (l : Bound). CameTo m o.gap o.conflicts o.workers core.bounds.upper l (map (ended_of g.W.Member.known) ys)) (sym lower) came))
+    subst (λ (es : List Ending). CameTo m o c.upper-upper.result c.lower-lower.result es) (sym ends)
+    (subst (λ (u : Bound). CameTo m o u c.lower-lower.result (map (ended_of g.W.Member.known) ys)) (sym upper)
+    (subst (λ (l : Bound). CameTo m o core.bounds.upper l (map (ended_of g.W.Member.known) ys)) (sym lower) came))
 
 pub returns-clause-drawn : goal.returns-clause-drawn
 returns-clause-drawn g c =
@@ -92,18 +95,16 @@ returns-clause-drawn g c =
     let t = c.in_ok-turns.ensures in
     let core = c.take_turns-turns.new.port.core.now in
     let seed = words_of_seed o.seed in
-    let rows : length c.in_ok-core.core.board.rows ≡ 4096 = ap (λ (x : Shared). length x.board.rows) first ∙ first_rows m o.workers 4096 in
-    let by_rows = subst (λ (n : ℕ). TakesDrawnTurns g.W.Member.known n c.in_ok-core.core c.as_mut_slice.result.now seed core ys t.drawn.0) rows t.drawn.1 in
-    let by_core = subst (λ (x : Shared). TakesDrawnTurns g.W.Member.known 4096 x c.as_mut_slice.result.now seed core ys t.drawn.0) first by_rows in
-    let run : IsDrawnBy g.W.Member.known m o 4096 c.in_ok-ends.ends.items = record {
+    let by_core = subst (λ (x : Shared). TakesDrawnTurns g.W.Member.known most_rows x c.as_mut_slice.result.now seed core ys t.drawn.0) first t.drawn.1 in
+    let run : IsDrawnBy g.W.Member.known m o most_rows c.in_ok-ends.ends.items = record {
       crew = xs;
       count = sym full ∙ c.in_ok-crew.ensures.count;
       begins = c.in_ok-crew.ensures.each;
       core = core;
       last = ys;
       words = t.drawn.0;
-      turns = subst (λ (l : List (Turning _)). TakesDrawnTurns g.W.Member.known 4096 (first_shared m o.workers 4096) l seed core ys t.drawn.0) same by_core;
+      turns = subst (λ (l : List (Turning _)). TakesDrawnTurns g.W.Member.known most_rows (first_shared m o.workers most_rows) l seed core ys t.drawn.0) same by_core;
       all_over = t.over;
       seen = c.in_ok-ends.ensures ∙ ap (map (ended_of g.W.Member.known)) w;
     } in
-    IfOk-weaker c.outcome_of.result _ (λ (x : Outcome). IsDrawnBy g.W.Member.known m o 4096 x.ends) (λ x is. subst (IsDrawnBy g.W.Member.known m o 4096) (sym is) run) c.outcome_of.ensures.ends
+    IfOk-weaker c.outcome_of.result _ (λ (x : Outcome). IsDrawnBy g.W.Member.known m o most_rows x.ends) (λ x is. subst (IsDrawnBy g.W.Member.known m o most_rows) (sym is) run) c.outcome_of.ensures.ends

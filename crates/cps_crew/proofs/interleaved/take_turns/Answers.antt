@@ -1,10 +1,11 @@
 -- One worker's turn leaves the others as they were, and less to do.
-use Rattle.std.proofs.Common.{rules, ◌≡◌, ◌<◌, ℕ, IsTrue, None, false, length, get_or, refl, sym, ap, subst, ◌∙◌, List}
+use Rattle.std.proofs.Common.{rules, ◌≡◌, ◌<◌, ℕ, IsTrue, None, false, get_or, refl, sym, ap, subst, ◌∙◌, List}
 use Rattle.rand_pcg.specs.Lcg.{Lcg}
 use mathlib.Core.Logic.{dite}
 use native.Mathlib.Decide.{ℕ_discrete}
 use Rattle.cps_port.proofs.ActorEvents.{others_stay}
 use Rattle.cps_port.specs.declared.part.Part.{Part}
+use Rattle.cps_port.specs.Entries.{most_rows}
 use Rattle.cps_port.specs.Shared.{part_at, board_part}
 use Rattle.cps_crew.specs.declared.interleaved.Turning.{Turning}
 use Rattle.cps_crew.specs.Workers.{HasTurned}
@@ -16,17 +17,16 @@ pub turns-init : goal.turns-init
 turns-init g c =
     let core = c.args.port.now.core.now in
     let crew : List (Turning _) = c.args.crew.now in
-    let rows = length core.board.rows in
     let seed = words_of_seed c.args.options.now.seed in
     record {
       count = refl;
       model = refl;
-      rows = refl;
+      rows = c.requires.rows;
       idle = c.requires.idle;
       pool = c.requires.pool;
       is_read = refl;
       crew = c.requires.crew;
-      drawn = subst (λ (w : Lcg). TakesDrawnTurns g.W.Member.known rows core crew seed core crew w) (sym c.new-words.ensures) none_yet;
+      drawn = subst (λ (w : Lcg). TakesDrawnTurns g.W.Member.known most_rows core crew seed core crew w) (sym c.new-words.ensures) none_yet;
     }
 
 pub take_turn-requires-clause-memory : goal.take_turn-requires-clause-memory
@@ -38,8 +38,8 @@ take_turn-requires-clause-memory g c =
     let i = c.turns.invariant in
     let o = c.args.options.now in
     let m = c.args.port.now.core.now.model in
-    let work = at_work g.W.Member.known m o.gap o.conflicts _ core crew k d i.crew c.place_of-place.ensures.within (c.place_of-place.ensures.at_work d) in
-    work_memory m o.gap o.conflicts _ _ _ work
+    let work = at_work g.W.Member.known m o core crew k d i.crew c.place_of-place.ensures.within (c.place_of-place.ensures.at_work d) in
+    work_memory m o _ _ _ work
 
 pub take_turn-requires-clause-running : goal.take_turn-requires-clause-running
 take_turn-requires-clause-running g c =
@@ -50,7 +50,7 @@ take_turn-requires-clause-running g c =
     let i = c.turns.invariant in
     let o = c.args.options.now in
     let m = c.args.port.now.core.now.model in
-    let work = at_work g.W.Member.known m o.gap o.conflicts _ core crew k d i.crew c.place_of-place.ensures.within (c.place_of-place.ensures.at_work d) in
+    let work = at_work g.W.Member.known m o core crew k d i.crew c.place_of-place.ensures.within (c.place_of-place.ensures.at_work d) in
     work.running
 
 pub take_turn-requires-clause-model : goal.take_turn-requires-clause-model
@@ -62,8 +62,8 @@ take_turn-requires-clause-model g c =
     let i = c.turns.invariant in
     let o = c.args.options.now in
     let m = c.args.port.now.core.now.model in
-    let work = at_work g.W.Member.known m o.gap o.conflicts _ core crew k d i.crew c.place_of-place.ensures.within (c.place_of-place.ensures.at_work d) in
-    i.model ∙ sym (work_model m o.gap o.conflicts _ _ _ work)
+    let work = at_work g.W.Member.known m o core crew k d i.crew c.place_of-place.ensures.within (c.place_of-place.ensures.at_work d) in
+    i.model ∙ sym (work_model m o _ _ _ work)
 
 pub take_turn-requires-clause-pool : goal.take_turn-requires-clause-pool
 take_turn-requires-clause-pool g c =
@@ -74,8 +74,8 @@ take_turn-requires-clause-pool g c =
     let i = c.turns.invariant in
     let o = c.args.options.now in
     let m = c.args.port.now.core.now.model in
-    let work = at_work g.W.Member.known m o.gap o.conflicts _ core crew k d i.crew c.place_of-place.ensures.within (c.place_of-place.ensures.at_work d) in
-    i.pool ∙ sym (work_model m o.gap o.conflicts _ _ _ work)
+    let work = at_work g.W.Member.known m o core crew k d i.crew c.place_of-place.ensures.within (c.place_of-place.ensures.at_work d) in
+    i.pool ∙ sym (work_model m o _ _ _ work)
 
 pub take_turn-requires-clause-reads : goal.take_turn-requires-clause-reads
 take_turn-requires-clause-reads g c =
@@ -97,8 +97,8 @@ take_turn-requires-clause-imported g c =
     let i = c.turns.invariant in
     let o = c.args.options.now in
     let m = c.args.port.now.core.now.model in
-    let work = at_work g.W.Member.known m o.gap o.conflicts _ core crew k d i.crew c.place_of-place.ensures.within (c.place_of-place.ensures.at_work d) in
-    work_imported m o.gap o.conflicts _ _ _ work
+    let work = at_work g.W.Member.known m o core crew k d i.crew c.place_of-place.ensures.within (c.place_of-place.ensures.at_work d) in
+    work_imported m o _ _ _ work
 
 pub turns-smaller : goal.turns-smaller
 turns-smaller g c =
@@ -114,7 +114,7 @@ turns-smaller g c =
     let still : w.over ≡ false = c.place_of-place.ensures.at_work d in
     let turn = subst (λ (n : ℕ). HasTurned n (g.W.Member.known w.worker) (g.W.Member.known v.worker) (part_at core k) (part_at next k) v.over) c.turns.invariant.rows c.in_ok-turning.ensures.turn in
     let others = (others_stay _ _ _ _ c.take_turn.ensures.alone).parts in
-    all_lighter g.W.Member.known (length c.args.port.now.core.now.board.rows) core next crew k w v c.place_of-place.ensures.within is still turn others
+    all_lighter g.W.Member.known most_rows core next crew k w v c.place_of-place.ensures.within is still turn others
 
 pub turns-preserved : goal.turns-preserved
 turns-preserved g c =
@@ -140,7 +140,7 @@ turns-preserved g c =
       idle = λ j. dite (ℕ_discrete j k) (λ e. subst (λ (n : ℕ). (board_part next.board n).drawn ≡ None) (sym e) t.idle) (λ n. ap (λ (p : Part). p.board.drawn) (others j n) ∙ i.idle j);
       pool = t.pool ∙ i.pool;
       is_read = t.is_read ∙ i.is_read;
-      crew = all_turn_on g.W.Member.known c.args.port.now.core.now.model o.gap o.conflicts _ core next crew k w v i.crew c.place_of-place.ensures.within is still t.kind turn others;
+      crew = all_turn_on g.W.Member.known c.args.port.now.core.now.model o core next crew k w v i.crew c.place_of-place.ensures.within is still t.kind turn others;
       drawn = drawn_more g.W.Member.known _ c.args.port.now.core.now c.args.crew.now _ core next crew v c.turns.words c.next_word-word.new.self c.next_word-word.result c.count_at_work-count.result k d i.drawn
           c.next_word-word.ensures c.count_at_work-count.ensures.count c.if-count-eq0.false c.place_of-place.ensures.place c.place_of-place.ensures.within turn t.alone;
     }

@@ -19,10 +19,10 @@ loop-seated-init c =
       tables = (refl, refl);
       splits = c.requires.splits;
       crew = c.requires.crew;
-      returned = λ m gap conflicts h. h;
+      returned = λ m o h. h;
       count = omega (arith, ap (λ (l : List Ending). length l) none);
-      gathered = λ m gap conflicts h. subst (λ (l : List Ending). AreGathered m gap conflicts (length xs) (length l) part l) (sym none)
-          (none_gathered m gap conflicts (length xs) part c.requires.idle.0 c.requires.idle.1);
+      gathered = λ m o h. subst (λ (l : List Ending). AreGathered m o (length xs) (length l) part l) (sym none)
+          (none_gathered m o (length xs) part c.requires.idle.0 c.requires.idle.1);
     }
 
 pub join-requires : goal.join-requires
@@ -55,12 +55,12 @@ loop-seated-preserved c =
       tables = (k.tables.0 ∙ i.tables.0, k.tables.1 ∙ i.tables.1);
       splits = omega (arith, i.splits, ap (λ (l : List Seated). total words_splits l) e, total_push words_splits xs x, k.splits);
       crew = All-append_left (IsBackAt board bounds) xs (x ∷ []) there;
-      returned = λ m gap conflicts h. record { each = each_front (HasReturned m gap conflicts board bounds) xs x (subst (HaveReturned m gap conflicts board bounds) e (i.returned m gap conflicts h)).each };
+      returned = λ m o h. record { each = each_front (HasReturned m o board bounds) xs x (subst (HaveReturned m o board bounds) e (i.returned m o h)).each };
       count = omega (arith, long, i.count, ap (λ (l : List Ending). length l) inserted);
-      gathered = λ m gap conflicts h.
-          let last = each_last (HasReturned m gap conflicts board bounds) xs x (subst (HaveReturned m gap conflicts board bounds) e (i.returned m gap conflicts h)).each in
-          let done : IsHonestEnd m gap conflicts (words_part x) (length xs) ended = subst (λ (o : Option Ending). IfSome o (IsHonestEnd m gap conflicts (words_part x) (length xs))) c.in-Some-ended.is last.done in
-          let before = subst (λ (n : ℕ). AreGathered m gap conflicts n (length es) (words.part_of c.loop-seated.kept.bounds_seat) es) long (i.gathered m gap conflicts h) in
-          let one = one_gathered m gap conflicts (length xs) (length es) (words.part_of c.loop-seated.kept.bounds_seat) (words.part_of c.join.new.self.bounds_seat) (words_part x) ended es before done k.part in
-          subst (λ (l : List Ending). AreGathered m gap conflicts (length xs) (length l) (words.part_of c.join.new.self.bounds_seat) l) (sym inserted) one;
+      gathered = λ m o h.
+          let last = each_last (HasReturned m o board bounds) xs x (subst (HaveReturned m o board bounds) e (i.returned m o h)).each in
+          let done : IsHonestEnd m o (words_part x) (length xs) ended = subst (λ (found : Option Ending). IfSome found (IsHonestEnd m o (words_part x) (length xs))) c.in-Some-ended.is last.done in
+          let before = subst (λ (n : ℕ). AreGathered m o n (length es) (words.part_of c.loop-seated.kept.bounds_seat) es) long (i.gathered m o h) in
+          let one = one_gathered m o (length xs) (length es) (words.part_of c.loop-seated.kept.bounds_seat) (words.part_of c.join.new.self.bounds_seat) (words_part x) ended es before done k.part in
+          subst (λ (l : List Ending). AreGathered m o (length xs) (length l) (words.part_of c.join.new.self.bounds_seat) l) (sym inserted) one;
     }

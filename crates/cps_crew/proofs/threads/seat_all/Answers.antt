@@ -19,6 +19,7 @@ seat-requires c =
         (halves n c.args.workers (boards.splits_of c.loop-number.kept.board_seat) c.loop-number-test.true c.requires.few i.board_left).0,
         (halves n c.args.workers (words.splits_of c.loop-number.kept.bounds_seat) c.loop-number-test.true c.requires.few i.bounds_left).0,
       );
+      knows_nothing = i.part;
     }
 
 pub loop-number-preserved : goal.loop-number-preserved
@@ -42,7 +43,7 @@ loop-number-preserved c =
       tables = (k.tables.0 ∙ i.tables.0, k.tables.1 ∙ i.tables.1);
       board_left = k.board_splits ∙ by_board.1;
       bounds_left = k.splits ∙ by_bounds.1;
-      part = k.part ∙ i.part;
+      part = k.part;
       splits = omega (arith, i.splits, k.given, k.splits, ap (λ (l : List Seated). total words_splits l) e, total_push words_splits xs x);
       count = (let more = c.in_ok-push.ensures.len in omega (arith, i.count, more));
       crew = record { each = subst (λ (l : List Seated). (j : ℕ) (d : Seated) → j < length l → IsSeated board bounds j (get_or l j d)) (sym e) all };

@@ -1,10 +1,13 @@
 -- All workers are back, and the words are what their seats know together.
-use Rattle.std.proofs.Common.{rules, ◌≡◌, ◌↔◌, IsTrue, Bool, ℕ, ◌+◌, length, sym, ap, subst, ◌∙◌, List, All}
+use Rattle.std.proofs.Common.{rules, ◌≡◌, ◌↔◌, IsTrue, Bool, ℕ, ◌+◌, length, sym, ap, ap₂, subst, ◌∙◌, List, All}
 use Rattle.cps_board.specs.declared.seats.Board.{Board}
 use Rattle.cps_bounds.specs.declared.seats.Bounds.{Bounds}
 use Rattle.cps_model.specs.declared.bound.Bound.TheVariants.{At}
 use Rattle.cps_model.specs.declared.model.CpModel.{CpModel}
 use Rattle.cps_model.specs.Start.{objective_start}
+use Rattle.cps_port.specs.declared.part.BoardPart.{BoardPart}
+use Rattle.cps_port.specs.declared.part.BoundsPart.{BoundsPart}
+use Rattle.cps_port.specs.declared.part.Part.{Part}
 use Rattle.cps_port.specs.Incumbents.{IsLowerBound}
 use Rattle.cps_port.specs.Order.{raised_above}
 use Rattle.cps_port.specs.Totals.{total}
@@ -25,6 +28,13 @@ work_all-requires-clause-ready g c =
     let reads = subst (λ (b : Bool). IsTrue b ↔ SearchesNear o.workers) (sym c.in_ok-pool.ensures.is_read) c.reads_pool.ensures in
     let ready = all_ready g.T.Recruiter.suits m _ _ o c.in_ok-board.board c.in_ok-bounds.bounds c.in_ok-crew.crew.items c.in_ok-bounds.ensures.model c.in_ok-pool.ensures.model reads count c.requires.range c.requires.suits c.in_ok-crew.ensures.crew in
     λ κs outlive. subst (All (MayWork g.T.Recruiter.suits m o _ _)) (sym c.as_mut_slice.ensures.value) ready
+
+pub seat_all-requires-clause-knows_nothing : goal.seat_all-requires-clause-knows_nothing
+seat_all-requires-clause-knows_nothing g c =
+    ap₂ (λ (b : BoardPart) (q : BoundsPart). let p : Part = record { board = b; bounds = q } in p) c.in_ok-board.ensures.seat.1 c.in_ok-bounds.ensures.seat.1
+
+pub gather-requires-clause-idle : goal.gather-requires-clause-idle
+gather-requires-clause-idle g c = let new = c.in_ok-crew.ensures.part in (ap (λ (p : Part). p.bounds.offered) new, ap (λ (p : Part). p.bounds.raised) new)
 
 pub gather-requires-clause-splits : goal.gather-requires-clause-splits
 gather-requires-clause-splits g c =
@@ -49,8 +59,8 @@ gather-requires-clause-crew g c =
     let same : c.as_mut_slice.result.now ≡ xs = c.as_mut_slice.ensures.value in
     let full : c.in_ok-crew.crew.len ≡ length xs = search rules in
     let tables = c.in_ok-crew.ensures.tables in
-    all_at m o.gap o.conflicts board bounds _
-    (written_back m o board c.in_ok-board.board bounds c.in_ok-bounds.bounds c.in_ok-crew.crew.len xs c.as_mut_slice.result.now c.work_all.new.crew full same c.work_all.ensures.len tables.0 tables.1
+    all_at m o board bounds _
+    (written_back m o board c.in_ok-board.board bounds c.in_ok-bounds.bounds c.in_ok-crew.crew.len xs c.as_mut_slice.result.now c.work_all.new.crew full same c.work_all.ensures.len tables.0 tables.1 c.in_ok-board.ensures.board.1
     c.in_ok-crew.ensures.crew c.work_all.ensures.each)
 
 pub outcome_of-requires-clause-some : goal.outcome_of-requires-clause-some
@@ -70,9 +80,9 @@ outcome_of-requires-clause-came g c =
     let same : c.as_mut_slice.result.now ≡ xs = c.as_mut_slice.ensures.value in
     let full : c.in_ok-crew.crew.len ≡ length xs = search rules in
     let tables = c.in_ok-crew.ensures.tables in
-    let back = written_back m o board c.in_ok-board.board bounds c.in_ok-bounds.bounds c.in_ok-crew.crew.len xs c.as_mut_slice.result.now c.work_all.new.crew full same c.work_all.ensures.len tables.0 tables.1
+    let back = written_back m o board c.in_ok-board.board bounds c.in_ok-bounds.bounds c.in_ok-crew.crew.len xs c.as_mut_slice.result.now c.work_all.new.crew full same c.work_all.ensures.len tables.0 tables.1 c.in_ok-board.ensures.board.1
     c.in_ok-crew.ensures.crew c.work_all.ensures.each in
-    let came = subst (λ (n : ℕ). AreGathered m o.gap o.conflicts 0 n (words.part_of seat) c.in_ok-ends.ends.items) c.in_ok-crew.ensures.count (c.in_ok-ends.ensures.gathered m o.gap o.conflicts back) in
-    came_to m o.gap o.conflicts o.workers (words.part_of seat) c.close-upper.result.0 c.close-upper.result.1 c.in_ok-ends.ends.items came (k.whole_upper all)
+    let came = subst (λ (n : ℕ). AreGathered m o 0 n (words.part_of seat) c.in_ok-ends.ends.items) c.in_ok-crew.ensures.count (c.in_ok-ends.ensures.gathered m o back) in
+    came_to m o (words.part_of seat) c.close-upper.result.0 c.close-upper.result.1 c.in_ok-ends.ends.items came (k.whole_upper all)
     (k.whole_lower all ∙ ap (λ (x : CpModel). raised_above (words.part_of seat).raised (At (objective_start x))) model)
     (subst (λ (x : CpModel). IsLowerBound x c.close-upper.result.1) model k.lower) k.no_worse.0 k.no_worse.1
