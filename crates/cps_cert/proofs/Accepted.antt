@@ -21,21 +21,8 @@ use Rattle.cps_cert.specs.declared.claim.Claim.{Claim}
 use Rattle.cps_log.specs.Rows.{clause_box, IsJustified}
 use Rattle.cps_cert.specs.Accepting.{IsObjectiveRefuted, AreEndsApart, IsReasonOf, IsEndsOf, IsAccepted}
 use Rattle.cps_cert.specs.Refuting.{Refutes}
-use Rattle.cps_cert.specs.Domains.{AreDomains}
-
--- as many domains as subjects
-pub subjects_many : (vs : List Variable) (sums : List LinearExpr) → length (subject_domains vs sums) ≡ subject_count vs sums
-subjects_many vs sums = length-append (map variable_domain vs) (map (sum_domain vs) sums) ∙ rw (length-map vs variable_domain, length-map sums (sum_domain vs)) refl
-
-pub domain_count : (ds : List Window) (vs : List Variable) (sums : List LinearExpr) → AreDomains ds (subject_domains vs sums) → length ds ≡ subject_count vs sums
-domain_count ds vs sums are = are.many ∙ subjects_many vs sums
-
--- the box of a clause over domains is that over their lists
-pub denied_is : (ds : List Window) (lists : List (List ℤ)) (clause : List Atom) (s : ℕ) (x : ℤ) → AreDomains ds lists → denied (box_in ds) clause s x ≡ box_of lists clause s x
-denied_is ds lists clause s x are = ap (λ (b : Bool). b && not (is_made_true clause s x)) (are.same s x)
-
-pub denied_box : (ds : List Window) (lists : List (List ℤ)) (clause : List Atom) → AreDomains ds lists → denied (box_in ds) clause ≡ box_of lists clause
-denied_box ds lists clause are = fun_ext (λ s. fun_ext (λ x. denied_is ds lists clause s x are))
+use Rattle.cps_subjects.specs.Domains.{AreDomains}
+use Rattle.cps_subjects.proofs.Counted.{domain_count, denied_box}
 
 -- ---- items whose clause is judged by its box
 

@@ -26,11 +26,13 @@ use Rattle.cps_log.specs.Boxes.{box_of}
 use Rattle.cps_log.specs.Deriving.{literal_clause}
 use Rattle.cps_log.specs.Subjects.{IsDefinable, IsAtomOver, IsClauseOver, variable_domain, sum_domain, subject_domains, subject_count}
 use Rattle.cps_rup.specs.Domains.{box_in}
-use Rattle.cps_cert.specs.Domains.{IsSmallSum, IsSmallObjective}
+use Rattle.cps_subjects.specs.Domains.{IsSmallSum}
+use Rattle.cps_cert.specs.Domains.{IsSmallObjective}
 use Rattle.cps_cert.specs.Refuting.{IsRefutedAs, Refutes}
 use Rattle.cps_cert.specs.Trying.{IsBoxOf}
-use Rattle.cps_cert.proofs.SumEnds.{IsBelowDomains, reach_left}
-use Rattle.cps_cert.proofs.Spanned.{names_more, nat_same}
+use Rattle.cps_subjects.proofs.SumEnds.{IsBelowDomains, reach_left}
+use Rattle.cps_subjects.proofs.Spanned.{names_more, nat_same}
+use Rattle.cps_subjects.proofs.Literals.{literal_over}
 
 -- what the box of a clause leaves to a variable lies in its domain
 pub below_box : (vs : List Variable) (sums : List LinearExpr) (clause : List Atom) (box : Box) → ((s : ℕ) (x : ℤ) → box s x ≡ box_of (subject_domains vs sums) clause s x) → IsBelowDomains vs box
@@ -104,14 +106,6 @@ refuted_at m sums clause box c c' b same e said =
     let whole : box ≡ box_of (subject_domains m.variables sums) clause = fun_ext (λ s. fun_ext (λ x. same s x)) in
     let there = subst (λ (o : Box). (b ≡ true → IsRefutedAs m sums clause o c c.kind) × (IsRefutedAs m sums clause o c c.kind → b ≡ true)) whole said in
     subst (λ (d : Constraint). (b ≡ true → Refutes m sums clause d) × (Refutes m sums clause d → b ≡ true)) e there
-
-literal_over : (vs : List Variable) (sums : List LinearExpr) (r : ℤ) → names (length vs) r ≡ true → IsClauseOver (subject_count vs sums) (literal_clause r)
-literal_over vs sums (pos i) named =
-    let below : i < length vs = ltb-true _ _ named in
-    All-cons (IsAtomOver (subject_count vs sums)) _ [] (record { subject = omega arith; near = omega arith }) (All-nil (IsAtomOver (subject_count vs sums)))
-literal_over vs sums (negsuc i) named =
-    let below : i < length vs = ltb-true _ _ named in
-    All-cons (IsAtomOver (subject_count vs sums)) _ [] (record { subject = omega arith; near = omega arith }) (All-nil (IsAtomOver (subject_count vs sums)))
 
 -- the clause of an assumption is over the variables
 pub assumption_over : (m : CpModel) (sums : List LinearExpr) (k : ℕ) (r : ℤ) → IsValid m → k < length m.assumptions → r ≡ get_or m.assumptions k r → IsClauseOver (subject_count m.variables sums) (literal_clause r)

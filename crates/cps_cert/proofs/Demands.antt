@@ -7,7 +7,7 @@ use Rattle.cps_model.specs.declared.constraint.Kind.TheVariants.{Linear, Exactly
 use Rattle.cps_model.specs.Rules.{sums_of}
 use Rattle.cps_unit.specs.Boxes.{Box}
 use Rattle.cps_log.specs.Boxes.{IsFixedTrue, IsFixedFalse}
-use Rattle.cps_cert.specs.Domains.{IsSmallSum}
+use Rattle.cps_subjects.specs.Domains.{IsSmallSum}
 use Rattle.cps_cert.specs.Refuting.{AtTwo, is_direct, IsDemandRefuted}
 
 -- the sum of a linear constraint is small

@@ -22,10 +22,12 @@ use Rattle.cps_rup.specs.Domains.{box_in}
 use Rattle.cps_cert.specs.declared.claim.Claim.{Claim}
 use Rattle.cps_log.specs.Rows.{clause_box}
 use Rattle.cps_cert.specs.Accepting.{IsObjectiveRefuted, AreEndsApart, IsAccepted}
-use Rattle.cps_cert.specs.Domains.{AreDomains, IsSmallSum, IsSmallObjective}
+use Rattle.cps_subjects.specs.Domains.{AreDomains, IsSmallSum}
+use Rattle.cps_cert.specs.Domains.{IsSmallObjective}
 use Rattle.cps_cert.specs.Refuting.{Refutes}
 use Rattle.cps_cert.specs.Trying.{IsBoxOf}
-use Rattle.cps_cert.proofs.Accepted.{Tells, domain_count, judged, tells_of_box, tells_filled, reason_told, ends_told}
+use Rattle.cps_cert.proofs.Accepted.{Tells, judged, tells_of_box, tells_filled, reason_told, ends_told}
+use Rattle.cps_subjects.proofs.Counted.{domain_count}
 use Rattle.cps_cert.proofs.Boxed.{below_box, definable_over, objective_over}
 
 -- what is left of the subjects' domains is the box of the clause

@@ -10,7 +10,7 @@ use Rattle.cps_log.specs.Subjects.{IsNear}
 use Rattle.cps_cert.specs.declared.response.NextPhase.{NextPhase}
 use Rattle.cps_cert.specs.Lines.{Phase, at_status, in_solution, in_core, optimal_line, infeasible_line, value_line, assumption_line, IsBehindValues, Takes}
 use Rattle.cps_cert.specs.ResponsePhases.{phase_of_next, IsJudged}
-use Rattle.cps_cert.proofs.Numbers.{near_mag}
+use Rattle.cps_subjects.proofs.Near.{near_mag}
 
 byte_of : (k : ℕ) (xs ys : List ℕ) → xs ≡ ys → get_or xs k 0 ≡ get_or ys k 0
 byte_of k xs ys e = ap (λ (bs : List ℕ). get_or bs k 0) e

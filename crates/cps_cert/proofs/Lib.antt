@@ -17,17 +17,11 @@ pub mod Terms
 pub mod Trials
 pub mod OneItem
 pub mod OneVerdict
-pub mod Products
-pub mod SumEnds
 pub mod Pairs
 pub mod Outside
 pub mod Demands
-pub mod Roots
-pub mod Spanned
 pub mod Apart
 pub mod Depending
-pub mod Bounds
-pub mod Domained
 pub mod Feeds
 pub mod Passed
 pub mod Boxed

@@ -11,13 +11,7 @@ use lib.Signed.{mag, le_z}
 use mir.Syntax.{w64, w32}
 use Rattle.cps_log.specs.Subjects.{IsNear}
 use Rattle.cps_log.specs.Fitting.{FitsVariable}
-
-pub near_mag : (z : ℤ) → IsNear z → mag z < 2 ^ 63
-near_mag (pos n) h = omega arith
-near_mag (negsuc n) h = omega arith
-
-pub near_fits : (z : ℤ) → IsNear z → FitsSigned w64 z
-near_fits z h = record { sfits = near_mag z h }
+use Rattle.cps_subjects.proofs.Near.{near_mag, near_fits}
 
 pub text_of_number : (word : List ℕ) (z : ℤ) → IsNear z → word ≡ signed_decimal z → IsUtf8 word
 text_of_number word z h e = rw e (IsUtf8-from_ascii (signed_decimal z) (IsAscii-signed z (near_mag z h)))

@@ -17,7 +17,8 @@ use Rattle.cps_log.specs.Subjects.{IsNear}
 use Rattle.cps_log.specs.Writing.{behind_blank, op_text, atom_word, clause_text, terms_text, sum_text, item_line}
 use Rattle.cps_log.specs.Fitting.{FitsVariable, FitsAtom, FitsClause, FitTerms, FitsSum, FitsItem}
 use Rattle.cps_cert.specs.Words.{BeginsWith}
-use Rattle.cps_cert.proofs.Numbers.{near_mag, variable_near}
+use Rattle.cps_subjects.proofs.Near.{near_mag}
+use Rattle.cps_cert.proofs.Numbers.{variable_near}
 use Rattle.cps_cert.proofs.AtomWords.{first_of, decimal_digits, begins_op, behind_op}
 use Rattle.cps_cert.proofs.Clauses.{atom_no_blank, signed_no_blank, decimal_no_blank, clause_begins}
 use Rattle.cps_cert.proofs.Terms.{both_begin, begins_alone, no_blank_variable, terms_end}

@@ -11,7 +11,7 @@ use Rattle.cps_model.specs.declared.model.CpModel.{CpModel}
 use Rattle.cps_model.proofs.Tests.{and_true}
 use Rattle.cps_cert.specs.Lines.{Phase, at_status, in_solution, at_lines, in_core, in_log, at_end, finished, optimal_line, infeasible_line, value_line, assumption_line, IsBehindValues, IsValue, IsAssumption, Takes, Leads}
 use Rattle.cps_cert.specs.Verdicts.{is_no_feed, fed_line, Accepts, RefusesAfter}
-use Rattle.cps_cert.proofs.Numbers.{near_mag}
+use Rattle.cps_subjects.proofs.Near.{near_mag}
 use Rattle.cps_cert.proofs.OneItem.{same_run, one_item}
 
 -- ---- lines

@@ -9,12 +9,8 @@ use Rattle.cps_log.specs.Subjects.{IsDefinable, sum_domain}
 use Rattle.cps_rup.specs.Trailed.{Trailed}
 use Rattle.cps_cert.specs.declared.ledger.Ledger.{Ledger}
 use Rattle.cps_cert.specs.Ledgers.{IsLedger}
-use Rattle.cps_cert.proofs.Domained.{sum_pushed}
-
--- domains of the same intervals have the same values
-contains_same : (d d' : Window) (x : ℤ) → intervals d' ≡ intervals d → contains d' x ≡ contains d x
-unfolding contains
-contains_same d d' x same = ap (λ (ps : List (ℤ × ℤ)). is_among ps x) same
+use Rattle.cps_subjects.proofs.Domained.{sum_pushed}
+use Rattle.cps_subjects.proofs.Same.{contains_same}
 
 pub ledger_with_sum : (m : CpModel) (old new : Ledger) (e : LinearExpr) (d d' : Window) → IsLedger m old → IsDefinable m.variables e → new.sums.items ≡ old.sums.items ++ e ∷ [] → new.domains ≡ record { first = old.domains.first ++ d ∷ []; now = old.domains.first ++ d ∷ [] } → new.clauses.domains ≡ old.clauses.domains ++ d' ∷ [] → new.assignments.values.items ≡ old.assignments.values.items → ((x : ℤ) → contains d x ≡ is_within (sum_domain m.variables e) x) → intervals d' ≡ intervals d → IsLedger m new
 ledger_with_sum m old new e d d' l definable sums domains clauses values is same =

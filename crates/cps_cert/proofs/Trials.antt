@@ -34,7 +34,7 @@ use Rattle.cps_cert.specs.Refuting.{IsRefutedByAll}
 use Rattle.cps_cert.specs.Trying.{IsBoxOf, IsTooMuch, IsGood}
 use Rattle.cps_log.specs.Subjects.{IsClauseOver, subject_count}
 use Rattle.std.specs.Prelude.{int_lt}
-use Rattle.cps_cert.proofs.SumEnds.{box_is}
+use Rattle.cps_subjects.proofs.SumEnds.{box_is}
 use Rattle.cps_cert.proofs.Reached.{too_much_to_try}
 use Rattle.cps_cert.proofs.AllTried.{counted_same, reached_not_refuted, not_reached_refuted}
 use Rattle.cps_cert.proofs.Searching.{reach_at, reach_more, reach_here, here_reached}

@@ -8,7 +8,7 @@ use Rattle.cps_cert.specs.declared.claim.Claim.{Claim}
 use Rattle.cps_cert.specs.declared.ledger.Ledger.{Ledger}
 use Rattle.cps_cert.specs.declared.ledger.Taken.{Taken}
 use Rattle.cps_cert.specs.declared.ledger.Taken.TheVariants as taken
-use Rattle.cps_cert.specs.Domains.{AreDomains}
+use Rattle.cps_subjects.specs.Domains.{AreDomains}
 use Rattle.cps_cert.specs.Lines.{Phase, in_log, at_end, IsItem}
 
 -- the sums and the clauses that a ledger has

@@ -4,21 +4,12 @@ ghost use Rattle.cps_model.specs.Within.{is_within};
 ghost use Rattle.cps_model.specs.Validity.{variable_fault};
 ghost use Rattle.cps_domain.specs.Window.{contains};
 ghost use Rattle.cps_log.specs.Subjects.{variable_domain};
-ghost use Rattle.cps_cert.specs.Domains.{AreDomains};
+ghost use Rattle.cps_subjects.specs.Domains.{AreDomains};
 
-use cps_domain::Domain;
 use cps_model::Variable;
 use cps_rup::{RupChecker, TrailedDomains};
+use cps_subjects::domain_of;
 use std::alloc::{AllocError, Global};
-
-/// The domain of a variable's values.
-fn domain_of(alloc: Global, variable: &Variable) -> Result<Domain, AllocError>
-    requires { variable_fault variable.now ≡ None }
-    ensures { IfOk result (λ domain. (x : ℤ) → contains domain x ≡ is_within variable.now.domain x) }
-{
-    let domain = Domain::of_bounds(alloc, variable.domain.as_slice())?;
-    Ok(domain)
-}
 
 /// The variables' domains, of which boxes are made.
 pub(crate) fn domains_of(

@@ -15,16 +15,15 @@ ghost use Rattle.cps_log.specs.declared.item.LogItem.TheVariants as items;
 ghost use Rattle.cps_rup.specs.Domains.{box_in};
 ghost use Rattle.cps_cert.specs.declared.claim.Claim.{Claim as ClaimOf};
 ghost use Rattle.cps_cert.specs.Accepting.{IsAccepted};
-ghost use Rattle.cps_cert.specs.Domains.{AreDomains, IsNearClaim};
+ghost use Rattle.cps_subjects.specs.Domains.{AreDomains};
+ghost use Rattle.cps_cert.specs.Domains.{IsNearClaim};
 ghost use Rattle.cps_cert.specs.Ledgers.{derivation_of, IsLedger, HasTaken};
 ghost use Rattle.cps_cert.specs.Refuting.{Refutes};
 ghost use Rattle.cps_cert.specs.Trying.{IsBoxOf};
 
 use crate::assignments::Assignments;
 use crate::assumed::is_assumed;
-use crate::atoms::{atom_of_literal, is_over};
 use crate::claim::Claim;
-use crate::definable::{is_definable, sum_domain};
 use crate::domains::{checker_of, domains_of};
 use crate::objective::is_objective_refuted;
 use crate::reader::item_of;
@@ -34,6 +33,7 @@ use cps_literal::{Atom, Clause};
 use cps_log::LogItem;
 use cps_model::LinearExpr;
 use cps_rup::{RupChecker, TrailedDomains};
+use cps_subjects::{atom_of_literal, is_definable, is_over, sum_domain};
 use cps_validate::ValidModel;
 use std::alloc::{AllocError, Global};
 

@@ -10,11 +10,9 @@
 
 mod assignments;
 mod assumed;
-mod atoms;
 mod checking;
 mod claim;
 mod cursor;
-mod definable;
 mod domains;
 mod fields;
 mod fixed;
@@ -28,7 +26,6 @@ mod reader;
 mod refuting;
 mod response;
 mod shown;
-mod sums;
 mod trying;
 mod values;
 mod verdict;

@@ -4,11 +4,9 @@ ghost use Rattle.std.specs.Fmt.{decimal, signed_decimal};
 ghost use Rattle.cps_log.specs.Subjects.{IsNear};
 ghost use Rattle.cps_log.specs.Fitting.{FitsVariable};
 
+use cps_subjects::FARTHEST;
 use itoa::{Buffer, Integer};
 use std::str;
-
-/// The greatest magnitude of a number.
-pub(crate) const FARTHEST: u64 = 1 << 62;
 
 /// Whether a word is what is written of a number.
 pub(crate) fn is_written<N: Integer>(word: &[u8], number: N) -> bool

@@ -4,13 +4,14 @@ ghost use Rattle.cps_model.specs.Within.{is_allowed};
 ghost use Rattle.cps_log.specs.Boxes.{NoneBetween, IsSumOutside};
 ghost use Rattle.cps_cert.specs.Accepting.{is_at_issue, IsObjectiveRefuted};
 ghost use Rattle.cps_rup.specs.Domains.{box_in};
-ghost use Rattle.cps_cert.specs.Domains.{IsSmallSum, IsSmallObjective, IsNearClaim};
+ghost use Rattle.cps_subjects.specs.Domains.{IsSmallSum};
+ghost use Rattle.cps_cert.specs.Domains.{IsSmallObjective, IsNearClaim};
 
 use crate::claim::Claim;
 use crate::intervals::none_between;
-use crate::sums::sum_ends;
 use cps_domain::Domain;
 use cps_model::Objective;
+use cps_subjects::sum_ends;
 
 /// Whether no number from `low` to `high` is one that the bounds allow, where no bounds allow every number.
 fn none_allowed(bounds: &[i64], low: i64, high: i64) -> bool

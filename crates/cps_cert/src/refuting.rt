@@ -11,16 +11,16 @@ ghost use Rattle.cps_log.specs.Subjects.{IsNear};
 ghost use Rattle.cps_cert.specs.Accepting.{AreEndsApart};
 ghost use Rattle.cps_unit.specs.Boxes.{HasValues};
 ghost use Rattle.cps_rup.specs.Domains.{box_in};
-ghost use Rattle.cps_cert.specs.Domains.{IsSmallSum};
+ghost use Rattle.cps_subjects.specs.Domains.{IsSmallSum};
 ghost use Rattle.cps_cert.specs.Refuting.{AtTwo, is_direct, IsDemandRefuted, IsRefutedAs};
 
 use crate::fixed::{
     all_fixed_false, all_fixed_true, any_fixed_false, has_even_count, two_fixed_true,
 };
 use crate::intervals::none_between;
-use crate::sums::sum_ends;
 use cps_domain::Domain;
 use cps_model::{Constraint, Kind, LinearExpr};
+use cps_subjects::sum_ends;
 
 /// Whether no number between the ends of a sum is in a list of bounds.
 fn is_sum_outside(domains: &[Domain], vars: &[i32], coeffs: &[i64], bounds: &[i64]) -> bool

@@ -1,7 +1,7 @@
 //! Worked logs for the checker, through its public calls: whole inputs (`inputs`), items that follow from Boolean
 //! constraints (`booleans`), from sums and the objective (`sums`), and from constraints whose assignments are tried
-//! (`tried`), learnt clauses and assumptions (`learnt`), logs that are right and the same logs made wrong at one line
-//! (`wrong`), and lines that are no lines of a log (`malformed`).
+//! (`tried`), learnt clauses and assumptions (`learnt`), logs that a tracer writes (`traced`), logs that are right and
+//! the same logs made wrong at one line (`wrong`), and lines that are no lines of a log (`malformed`).
 //!
 //! Each row was worked out by hand from what a log may say (docs/LOGS.md), and its comment says how where that is not
 //! plain. A checker that refuses everything meets a law that only says what follows from `verified`, so each table has
@@ -22,6 +22,8 @@ mod malformed;
 mod reading;
 #[cfg(test)]
 mod sums;
+#[cfg(test)]
+mod traced;
 #[cfg(test)]
 mod tried;
 #[cfg(test)]

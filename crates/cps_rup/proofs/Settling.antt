@@ -1,5 +1,5 @@
 -- What the checker keeps: as subjects and clauses come, as its domains are narrowed for good, and what it answers.
-use Rattle.std.specs.Prelude.{◌↔◌, IsTrue, Any}
+use Rattle.std.specs.Prelude.{◌↔◌, IsTrue, Any, Result, Ok, Err, OnOk, OnErr}
 use Rattle.std.specs.List.{All}
 use Rattle.std.proofs.Common.{◌≡◌, ℕ, ◌+◌, ◌<◌, List, [], ◌∷◌, ◌++◌, length, length-append, Bool, ◌⊎◌, inl, inr, refl, sym, ◌∙◌, ap, subst, arith, ℤ}
 use Rattle.std.proofs.lemmas.List.Elements.{All-push, All-weaker}
@@ -54,6 +54,11 @@ settled_clause given domains clauses clauses' c e over before =
       narrowed = propagates_more clauses c (box_in given) (box_in domains.now) before.narrowed;
     })
 
+-- a clause more, or none where memory ran out
+pub pushed_clause : {E : Type 0} (result : Result (Unit {0}) E) (given : List Window) (domains : Trailed) (clauses clauses' : List (List Atom)) (c : List Atom) → OnOk result (clauses' ≡ clauses ++ c ∷ []) → OnErr result (clauses' ≡ clauses) → IsClauseOver (length given) c → IsSettledIn given domains clauses → IsSettledIn given domains clauses'
+pushed_clause (Ok u) given domains clauses clauses' c ok err over before = settled_clause given domains clauses clauses' c ok over before
+pushed_clause (Err e) given domains clauses clauses' c ok err over before = subst (λ (cs : List (List Atom)). IsSettledIn given domains cs) (sym err) before
+
 -- the same domains once more
 pub settled_back : (given : List Window) (domains domains' : Trailed) (first : List Window) (clauses : List (List Atom)) → domains' ≡ record { first = first; now = first } → first ≡ domains.first → IsSettledIn given domains clauses → IsSettledIn given domains' clauses
 settled_back given domains domains' first clauses e f before =
@@ -92,6 +97,13 @@ IsImplied domains clauses clause = IsEmpty (length domains) (denied (box_in doma
 
 counted : (m n : ℕ) (clauses : List (List Atom)) (box : Box) → m ≡ n → IsEmpty m box ⊎ LeadsToConflict clauses box → IsEmpty n box ⊎ LeadsToConflict clauses box
 counted m n clauses box e h = subst (λ (k : ℕ). IsEmpty k box ⊎ LeadsToConflict clauses box) e h
+
+pub implied_by_settled : (given : List Window) (domains : Trailed) (clauses : List (List Atom)) (clause : List Atom) → IsSettledIn given domains clauses → IsImplied domains.now clauses clause → IsImplied given clauses clause
+implied_by_settled given domains clauses clause before h =
+    let box = denied (box_in given) clause in
+    let next = denied (box_in domains.now) clause in
+    let p : Propagates clauses box next = propagates_denied clauses (box_in given) (box_in domains.now) clause before.narrowed in
+    implied_in (length given) clauses box next p (counted (length domains.now) (length given) clauses next before.count h)
 
 pub implied_settled : (given : List Window) (domains : Trailed) (clauses : List (List Atom)) (clause : List Atom) (answer : Bool) → IsSettledIn given domains clauses → IsTrue answer ↔ IsImplied domains.now clauses clause → IsTrue answer ↔ IsImplied given clauses clause
 implied_settled given domains clauses clause answer before h =

@@ -62,7 +62,7 @@ pub(crate) fn state_of(domains: &[Domain], clause: &[Atom]) -> ClauseState
 }
 
 /// Looks at some clauses in turn, and forces what they force. Answers the first that is false.
-fn look_at_each(
+pub(crate) fn look_at_each(
     domains: &mut TrailedDomains,
     clauses: &Clauses,
     numbers: &[u32],

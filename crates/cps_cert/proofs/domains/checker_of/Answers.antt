@@ -1,7 +1,7 @@
 -- One domain more.
 use Rattle.std.proofs.Common.{◌<◌, length, arith, ◌∙◌, ap}
 use Rattle.cps_rup.specs.Known.{Known}
-use Rattle.cps_cert.proofs.Domained.{none_are, domains_next}
+use Rattle.cps_subjects.proofs.Domained.{none_are, domains_next}
 use Rattle.cps_cert.proofs.domains.checker_of.Goals as goal
 
 pub loop-variable-init : goal.loop-variable-init

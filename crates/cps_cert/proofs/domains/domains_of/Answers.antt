@@ -1,7 +1,7 @@
 -- One domain more.
 use Rattle.std.proofs.Common.{◌<◌, length, arith, sym, ◌∙◌, ap}
 use Rattle.cps_rup.specs.Trailed.{Trailed}
-use Rattle.cps_cert.proofs.Domained.{none_are, domains_next}
+use Rattle.cps_subjects.proofs.Domained.{none_are, domains_next}
 use Rattle.cps_cert.proofs.domains.domains_of.Goals as goal
 
 pub loop-variable-init : goal.loop-variable-init

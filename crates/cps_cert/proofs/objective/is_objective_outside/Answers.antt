@@ -5,7 +5,7 @@ use Rattle.cps_model.specs.Within.{is_allowed}
 use Rattle.cps_log.specs.Boxes.{HasEnds}
 use Rattle.cps_cert.specs.Accepting.{is_at_issue}
 use Rattle.cps_rup.specs.Domains.{box_in}
-use Rattle.cps_cert.proofs.Numbers.{near_fits}
+use Rattle.cps_subjects.proofs.Near.{near_fits}
 use Rattle.cps_cert.proofs.Outside.{outside_if, outside_only, issue_if, issue_only}
 use Rattle.cps_cert.proofs.objective.is_objective_outside.Goals as goal
 

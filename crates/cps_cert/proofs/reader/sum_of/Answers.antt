@@ -1,7 +1,7 @@
 -- An offset, and terms behind it.
 use Rattle.std.proofs.lemmas.Int.{to_z-of_z}
 use mir.Syntax.{w64}
-use Rattle.cps_cert.proofs.Numbers.{near_fits}
+use Rattle.cps_subjects.proofs.Near.{near_fits}
 use Rattle.cps_log.specs.Writing.{terms_text}
 use Rattle.cps_cert.proofs.Terms.{terms_end, sum_back}
 use Rattle.cps_cert.proofs.reader.sum_of.Goals as goal

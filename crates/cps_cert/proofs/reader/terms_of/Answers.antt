@@ -2,7 +2,8 @@
 use Rattle.std.proofs.Common.{ℤ, ◌++◌, ◌∷◌, [], length, ◌∙◌, ap}
 use Rattle.std.proofs.lemmas.Int.{to_z-of_z}
 use mir.Syntax.{w32, w64}
-use Rattle.cps_cert.proofs.Numbers.{near_fits, variable_fits}
+use Rattle.cps_subjects.proofs.Near.{near_fits}
+use Rattle.cps_cert.proofs.Numbers.{variable_fits}
 use Rattle.cps_cert.proofs.Clauses.{not_empty}
 use Rattle.cps_cert.proofs.Terms.{no_variable, no_coefficient, left_behind, text_with_term, fit_push}
 use Rattle.cps_cert.proofs.reader.terms_of.Goals as goal

@@ -4,8 +4,8 @@ use Rattle.std.proofs.lemmas.Int.{to_z-of_z}
 use Rattle.cps_domain.specs.Window.{contains}
 use Rattle.cps_log.specs.Boxes.{HasEnds, Spans}
 use Rattle.cps_rup.specs.Domains.{box_in}
-use Rattle.cps_cert.proofs.Numbers.{near_fits}
-use Rattle.cps_cert.proofs.SumEnds.{box_is}
+use Rattle.cps_subjects.proofs.Near.{near_fits}
+use Rattle.cps_subjects.proofs.SumEnds.{box_is}
 use Rattle.cps_cert.proofs.Pairs.{not_true}
 use Rattle.cps_cert.proofs.Outside.{apart_if, apart_only, hull_spans}
 use Rattle.cps_cert.proofs.refuting.are_ends_apart.Goals as goal

@@ -3,7 +3,7 @@ use Rattle.std.proofs.Common.{arith, FitsSigned, w64}
 use Rattle.std.proofs.lemmas.Int.{to_z-of_z}
 use Rattle.cps_model.specs.Within.{is_within}
 use Rattle.cps_rup.specs.Domains.{box_in}
-use Rattle.cps_cert.proofs.Numbers.{near_fits}
+use Rattle.cps_subjects.proofs.Near.{near_fits}
 use Rattle.cps_cert.proofs.Outside.{outside_if, outside_only}
 use Rattle.cps_cert.proofs.refuting.is_sum_outside.Goals as goal
 

@@ -2,7 +2,7 @@
 use Rattle.std.proofs.Common.{◌∙◌, ap}
 use Rattle.std.proofs.lemmas.Int.{to_z-of_z}
 use mir.Syntax.{w64}
-use Rattle.cps_cert.proofs.Numbers.{near_fits}
+use Rattle.cps_subjects.proofs.Near.{near_fits}
 use Rattle.cps_cert.proofs.Judging.{not_text, not_assumed}
 use Rattle.cps_cert.proofs.response.take_assumption.Goals as goal
 

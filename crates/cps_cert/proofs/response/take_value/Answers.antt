@@ -3,7 +3,7 @@ use Rattle.std.specs.Prelude.{IfOk}
 use Rattle.std.proofs.Common.{ℤ, [], ◌∷◌, ◌++◌, subst}
 use Rattle.std.proofs.lemmas.Int.{to_z-of_z}
 use mir.Syntax.{w64}
-use Rattle.cps_cert.proofs.Numbers.{near_fits}
+use Rattle.cps_subjects.proofs.Near.{near_fits}
 use Rattle.cps_cert.proofs.Judging.{IsBehind, behind_value}
 use Rattle.cps_cert.proofs.response.take_value.Goals as goal
 

@@ -7,7 +7,7 @@ use Rattle.cps_model.proofs.Inside.{length-are_within}
 use Rattle.cps_domain.specs.Window.{is_among}
 use Rattle.cps_rup.specs.Domains.{box_in}
 use Rattle.cps_cert.specs.Trying.{IsGood}
-use Rattle.cps_cert.proofs.SumEnds.{box_is}
+use Rattle.cps_subjects.proofs.SumEnds.{box_is}
 use Rattle.cps_cert.proofs.Steps.{within_set}
 use Rattle.cps_cert.proofs.Trials.{is_tried, none_reached, at_any, if_ok, here_either, first_named, others_named, tried, reached_more, same_after, all_left, entered, passed, behind, none_left, low_bits, end_fits, end_bits}
 use Rattle.cps_cert.proofs.trying.+can_reach.Goals as goal

@@ -5,7 +5,7 @@ use Rattle.cps_model.proofs.Inside.{length-are_within}
 use Rattle.cps_domain.specs.Window.{contains, size_of, intervals}
 use Rattle.cps_cert.specs.Counting.{is_listed, HasCount}
 use Rattle.cps_rup.specs.Domains.{box_in}
-use Rattle.cps_cert.proofs.SumEnds.{box_is}
+use Rattle.cps_subjects.proofs.SumEnds.{box_is}
 use Rattle.cps_cert.proofs.Rises.{domain_count}
 use Rattle.cps_cert.proofs.Counted.{listed_of, contains_of}
 use Rattle.cps_cert.proofs.Steps.{within_set, state_full, state_beyond, state_fixed, state_again, state_opened, only_of, several_of}

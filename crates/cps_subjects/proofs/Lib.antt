@@ -1,0 +1,11 @@
+pub mod Near
+pub mod Products
+pub mod Unique
+pub mod Bounds
+pub mod SumEnds
+pub mod Roots
+pub mod Spanned
+pub mod Domained
+pub mod Counted
+pub mod Same
+pub mod Literals
