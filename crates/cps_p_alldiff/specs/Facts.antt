@@ -1,10 +1,12 @@
 -- Facts by which positions have values in an interval, and those by which an atom follows from one that its subject is
 -- not in.
-use Rattle.std.specs.Prelude.{◌≡◌, ℕ, ◌≤◌, ◌==◌, ℤ, Bool, true, false, not, ◌&&◌, Option, Some, None, List, Contains}
+use Rattle.std.specs.Prelude.{◌≡◌, ℕ, ◌≤◌, ◌==◌, ℤ, pos, ◌≤ℤ◌, ◌+ℤ◌, ◌-ℤ◌, ◌⊎◌, Bool, true, false, not, ◌&&◌, Option, Some, None, List, Contains}
 use Rattle.std.specs.List.{count_by}
 use Rattle.cps_literal.specs.declared.atom.Atom.{Atom}
+use Rattle.cps_literal.specs.declared.atom.Op.{Op}
+use Rattle.cps_literal.specs.declared.atom.Op.TheVariants.{Le, Ge, Ne}
 use Rattle.cps_literal.specs.Truth.{meets, value_at, atom_holds}
-use Rattle.cps_trail.specs.Trail.{Trail, IsInside}
+use Rattle.cps_trail.specs.Trail.{Trail, IsTrueNow, IsInside}
 use Rattle.cps_propagate.specs.Reasons.{SpeaksOf}
 use Rattle.cps_rule.specs.Rules.{AreFacts, AllTrueAt}
 use Rattle.cps_p_alldiff.specs.declared.interval.Interval.{Interval}
@@ -31,6 +33,24 @@ pub record IsNearBound (t : Atom) (h : Interval) (near : Atom) : Type 0 where
   pub subject : near.subject ≡ t.subject
   pub inside : IsInside near.value
   pub bounds : (x : ℤ) → meets near.op near.value x ≡ true → meets t.op t.value x ≡ false → lies_in h x ≡ true
+
+-- an atom says that its subject is past an end of an interval, or no more than that
+abbrev pub IsPastEnd : Atom → Interval → Type 0
+IsPastEnd t h = ((t.op ≡ Ge) × (t.value ≤ℤ (h.high +ℤ pos 1))) ⊎ ((t.op ≡ Le) × ((h.low -ℤ pos 1) ≤ℤ t.value))
+
+-- the other end of the interval, by the side on which the atom is true
+abbrev pub other_end : Op → Interval → ℤ
+other_end Ge h = h.low
+other_end op h = h.high
+
+-- that the subject is not past that one
+abbrev pub inner_bound : Atom → Interval → Atom
+inner_bound t h = record { subject = t.subject; op = t.op; value = other_end t.op h }
+
+-- an atom takes a number of the interval away, or says that its subject is past an end of it, which it was not past on
+-- the other side
+abbrev pub IsBeside : Trail → Atom → Interval → Type 0
+IsBeside s t h = ((t.op ≡ Ne) × (lies_in h t.value ≡ true)) ⊎ (IsPastEnd t h × IsTrueNow s (inner_bound t h))
 
 -- the same of the facts, which gain at most one
 pub record IsNear (s : Trail) (t : Atom) (h : Interval) (old new : List Atom) : Type 0 where

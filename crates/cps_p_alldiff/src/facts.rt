@@ -1,11 +1,11 @@
 //! The facts of an explanation.
-ghost use Rattle.std.specs.Prelude.{◌≡◌, ◌<◌, length, All, IfSome, IfOk, IsTrue};
+ghost use Rattle.std.specs.Prelude.{◌≡◌, ◌<◌, length, All, Ok, None, false, IfSome, IfOk, IsTrue};
 ghost use Rattle.cps_propagate.specs.Strength.{IsHeld};
 ghost use Rattle.cps_p_alldiff.specs.Intervals.{IsInRange};
-ghost use Rattle.cps_p_alldiff.specs.Facts.{IsNearBound, IsNear, AreHolding, is_other};
+ghost use Rattle.cps_p_alldiff.specs.Facts.{IsNearBound, IsNear, IsPastEnd, IsBeside, inner_bound, AreHolding, is_other};
 
 use crate::interval::Interval;
-use cps_literal::{Atom, Op, Truth};
+use cps_literal::{Atom, Op};
 use cps_trail::Before;
 use std::alloc::AllocError;
 
@@ -95,10 +95,13 @@ pub(crate) fn hold(
     hold_from(past, subjects, 0, crowd, facts)
 }
 
-/// The bound that implies an atom, together with an interval that the subject's value is not in.
+/// The bound that implies an atom, together with an interval that the subject's value is not in. `None` where the atom
+/// does not say that its subject is past an end of the interval, or says more.
 fn near_of(target: Atom, hall: &Interval) -> Option<Atom>
     requires { IsInRange hall.now }
-    ensures { IfSome result (IsNearBound target hall.now) }
+    ensures some { IfSome result (IsNearBound target hall.now) }
+    ensures is { IfSome result (λ near. near ≡ inner_bound target hall.now) }
+    ensures none { result ≡ None → IsPastEnd target hall.now → ⊥ }
 {
     if target.op == Op::Ge && target.value <= hall.high + 1 {
         return Some(Atom {
@@ -127,7 +130,9 @@ pub(crate) fn add_near(
 ) -> Result<bool, AllocError>
     requires subject { target.subject < length past.now.first }
     requires range { IsInRange hall.now }
-    ensures { IfOk result (λ given. IsTrue given → IsNear past.now target hall.now facts.old.items facts.new.items) }
+    ensures yes { IfOk result (λ given. IsTrue given → IsNear past.now target hall.now facts.old.items
+        facts.new.items) }
+    ensures no { result ≡ Ok false → IsBeside past.now target hall.now → ⊥ }
 {
     if target.op == Op::Ne {
         return Ok(hall.low <= target.value && target.value <= hall.high);
@@ -135,11 +140,9 @@ pub(crate) fn add_near(
     let Some(near) = near_of(target, hall) else {
         return Ok(false);
     };
-    match past.truth(near) {
-        Truth::Yes => {
-            facts.push(near)?;
-            Ok(true)
-        }
-        _ => Ok(false),
+    if !past.truth(near).is_yes() {
+        return Ok(false);
     }
+    facts.push(near)?;
+    Ok(true)
 }

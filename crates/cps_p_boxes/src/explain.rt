@@ -133,7 +133,7 @@ fn explain_end(
     cite_start_up_to(past, &along[pair.after], time, facts)
 }
 
-/// Fills a list anew with the facts by which two boxes give a bound in a direction.
+/// Replaces `facts` by those by which two boxes imply a bound in a direction.
 fn explain_along(
     past: &Before,
     along: &[Span],
@@ -214,7 +214,7 @@ fn explain_absence(
     cite_overlap(past, x, y, pair, facts)
 }
 
-/// Fills a list anew with the facts by which two boxes give a target.
+/// Replaces `facts` by those by which two boxes imply a target.
 pub(crate) fn explain_boxes(
     past: &Before,
     x: &[Span],

@@ -284,7 +284,7 @@ fn meet(
     Ok(false)
 }
 
-/// Adds what one box gives with each that stands before it, or finds one with which it leaves no way.
+/// Adds what one box implies with each that stands before it, or finds one that it must overlap.
 fn meet_below(
     x: &Direction,
     y: &Direction,

@@ -10,7 +10,7 @@ use Rattle.std.proofs.lemmas.List.Sums.{sum_by-cons, sum_by-take-drop, sum_by-ta
 use Rattle.std.proofs.lemmas.List.Sorted.{sum_by-IsPermutation, All-permutation}
 use Rattle.cps_domain.proofs.Tests.{true_le, le_true, false_le, le_false}
 use Rattle.cps_p_cumulative.specs.declared.part.Part.{Part}
-use Rattle.cps_p_cumulative.specs.Profile.{at, height, AreParts, FitsCapacity, IsOverCapacity, IsEndedBy, PassesEnds, IsSweptAt, IsSwept}
+use Rattle.cps_p_cumulative.specs.Profile.{at, height, AreParts, FitsCapacity, IsOverCapacity, IsEndedBy, PassesEnds, StopsAt, IsSweptAt, IsSwept}
 use Rattle.cps_p_cumulative.specs.declared.judge.Ended.{Ended}
 
 -- what a part demands if it began by a time, and if it ended by it
@@ -277,3 +277,15 @@ passes_none ends old = record { level = refl; less = omega arith }
 
 pub fewer_left : (n k : ℕ) → k < n → n - (k + 1) < n - k
 fewer_left n k l = omega arith
+
+-- where the next end is later
+pub stops_late : (ends : List Part) (e : Ended) (t : ℤ) (z : Part) → e.place < length ends → t <ℤ (get_or ends e.place z).to → StopsAt ends e t
+stops_late ends e t z l h = record { next = λ d i. inl (subst (λ (p : Part). t <ℤ p.to) (get_or_default ends e.place z d l) h) }
+
+-- where it demands more than the level
+pub stops_over : (ends : List Part) (e : Ended) (t : ℤ) (z : Part) → e.place < length ends → e.level < (get_or ends e.place z).demand → StopsAt ends e t
+stops_over ends e t z l h = record { next = λ d i. inr (subst (λ (p : Part). e.level < p.demand) (get_or_default ends e.place z d l) h) }
+
+-- where there is none
+pub stops_last : (ends : List Part) (e : Ended) (t : ℤ) → length ends ≤ e.place → StopsAt ends e t
+stops_last ends e t past = record { next = λ d i. absurd (omega arith) }

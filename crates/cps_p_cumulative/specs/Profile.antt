@@ -1,5 +1,5 @@
 -- The profile of compulsory parts: how much is surely demanded at a time.
-use Rattle.std.specs.Prelude.{◌≡◌, ℕ, ◌+◌, ◌<◌, ◌≤◌, ◌^◌, ℤ, ◌≤ℤ◌, int_le, int_lt, Bool, ◌&&◌, if◌then◌else◌, List, All, length, take, slice_index_or}
+use Rattle.std.specs.Prelude.{◌≡◌, ℕ, ◌+◌, ◌<◌, ◌≤◌, ◌^◌, ℤ, ◌≤ℤ◌, ◌<ℤ◌, ◌⊎◌, int_le, int_lt, Bool, ◌&&◌, if◌then◌else◌, List, All, length, take, slice_index_or}
 use Rattle.std.specs.List.{sum_by}
 use Rattle.cps_p_cumulative.specs.declared.part.Part.{Part}
 use Rattle.cps_p_cumulative.specs.declared.judge.Ended.{Ended}
@@ -39,6 +39,11 @@ pub record PassesEnds (ends : List Part) (old new : Ended) : Type 0 where
   pub level : new.level + sum_by (λ p. p.demand) (take new.place ends)
       ≡ old.level + sum_by (λ p. p.demand) (take old.place ends)
   pub less : new.level ≤ old.level
+
+-- the end that comes next, if there is one, is later than a time, or demands more than the level
+pub record StopsAt (ends : List Part) (e : Ended) (t : ℤ) : Type 0 where
+  pub next : (d : Part) → e.place < length ends
+      → (t <ℤ (slice_index_or ends e.place d).to) ⊎ (e.level < (slice_index_or ends e.place d).demand)
 
 -- what began up to a place exceeds what ended by the time there by no more than the capacity
 pub record IsSweptAt (starts ends : List Part) (capacity k : ℕ) : Type 0 where

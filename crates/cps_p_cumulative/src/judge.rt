@@ -5,7 +5,7 @@
 //! the sweep names a time, the demands at it are summed again before it is used; should that not confirm it, each start
 //! is tried.
 ghost use Rattle.std.specs.Prelude.{◌≡◌, ◌<◌, ◌≤◌, ◌^◌, None, MatchOption, IfOk, IsTrue, false};
-ghost use Rattle.cps_p_cumulative.specs.Profile.{height, AreParts, FitsCapacity, IsOverCapacity, IsEndedBy, PassesEnds, IsSwept};
+ghost use Rattle.cps_p_cumulative.specs.Profile.{height, AreParts, FitsCapacity, IsOverCapacity, IsEndedBy, PassesEnds, StopsAt, IsSwept};
 
 use crate::part::{Part, demand_at};
 use std::alloc::{AllocError, Global};
@@ -49,11 +49,12 @@ pub(crate) struct Ended {
     pub(crate) level: u64,
 }
 
-/// Passes each end at a time or before.
+/// Passes each end at a time or before, as long as the level has what it demands.
 fn pass_ends(time: i64, ends: &[Part], ended: Ended) -> Ended
     requires before { IsEndedBy ends.now ended time }
     ensures ended { IsEndedBy ends.now result time }
     ensures passes { PassesEnds ends.now ended result }
+    ensures stops { StopsAt ends.now result time }
 {
     let mut place = ended.place;
     let mut level = ended.level;

@@ -1,5 +1,5 @@
 -- An interval's bounds.
-use Rattle.std.specs.Prelude.{◌≡◌, ◌<◌, ◌≤ℤ◌, ◌+ℤ◌, ◌-ℤ◌, ℕ, ℤ, pos, List, length, Bool, true, false, Contains}
+use Rattle.std.specs.Prelude.{◌≡◌, ◌<◌, ◌≤ℤ◌, ◌<ℤ◌, ◌+ℤ◌, ◌-ℤ◌, ◌⊎◌, ℕ, ℤ, pos, List, length, Bool, true, false, Contains}
 use Rattle.std.specs.Int.{int_max}
 use Rattle.cps_model.specs.Scheduling.{IsInterval}
 use Rattle.cps_literal.specs.declared.atom.Atom.{Atom}
@@ -84,6 +84,11 @@ pub record FitsInterval (h : Hulls) : Type 0 where
   pub some : pos 0 ≤ℤ h.size.high
   pub not_before : least_end h ≤ℤ h.end.high
   pub not_after : h.end.low ≤ℤ most_end h
+
+-- which of three tests tells that the ends leave no room, by its number
+abbrev pub IsWithoutRoom : Hulls → ℤ → Type 0
+IsWithoutRoom h k = ((k ≡ pos 0) × (h.size.high <ℤ pos 0)) ⊎ (((k ≡ pos 1) × (h.end.high <ℤ least_end h))
+    ⊎ ((k ≡ pos 2) × (most_end h <ℤ h.end.low)))
 
 -- ends lie between two numbers, as far as these can stand in a fact
 pub record AreEndsWithin (h : Hull) (least most : ℤ) : Type 0 where

@@ -6,7 +6,7 @@
 ghost use Rattle.std.specs.Prelude.{◌≡◌, ◌<◌, ℕ, [], ◌∷◌, length, IfSome, OnOk, true};
 ghost use Rattle.cps_literal.specs.Truth.{atom_holds};
 ghost use Rattle.cps_p_span.specs.Citing.{Cites};
-ghost use Rattle.cps_p_interval.specs.Intervals.{ArePlaces, AreHullsInside, IsSupport, IsOpposition, AreHullsMeasured, FitsInterval, LeavesNoInterval, AddsBounds, KeepsWithin, least_size, most_size, least_end, most_end, least_start, most_start};
+ghost use Rattle.cps_p_interval.specs.Intervals.{ArePlaces, AreHullsInside, IsSupport, IsOpposition, AreHullsMeasured, FitsInterval, IsWithoutRoom, LeavesNoInterval, AddsBounds, KeepsWithin, least_size, most_size, least_end, most_end, least_start, most_start};
 
 use cps_enforce::Enforced;
 use cps_instance::{Body, Task};
@@ -89,6 +89,7 @@ fn measure(store: &Store, places: Places) -> Hulls
 fn contradiction(hulls: Hulls) -> Option<i64>
     requires { AreHullsInside hulls }
     ensures some { IfSome result (λ k. LeavesNoInterval hulls) }
+    ensures test { IfSome result (IsWithoutRoom hulls) }
     ensures none { result ≡ None → FitsInterval hulls }
 {
     if hulls.size.high < 0 {

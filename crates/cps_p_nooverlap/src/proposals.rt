@@ -14,7 +14,7 @@ use crate::pushes::{Push, SetRule};
 use crate::timeline::Timeline;
 use std::alloc::AllocError;
 
-/// A crowd that pushes a job as far as it is said to be pushed, if there is one.
+/// A crowd that pushes a job to `push.time`, if there is one.
 pub(crate) fn crowd_of(
     timeline: &Timeline,
     job: &Job,

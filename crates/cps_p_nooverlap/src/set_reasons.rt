@@ -23,7 +23,7 @@ use cps_p_span::{cite_all, cite_others};
 use cps_trail::Before;
 use std::alloc::AllocError;
 
-/// Fills a list anew with the facts by which a window holds too much.
+/// Replaces `facts` by those by which a window holds too much.
 pub(crate) fn refute_anew(
     past: &Before,
     spans: &[Span],
@@ -57,7 +57,7 @@ fn cite_push(
     }
 }
 
-/// Fills a list anew with the facts by which a surely present span starts at a time or later, and answers that it does.
+/// Replaces `facts` by those by which a surely present span starts at a time or later, and returns that it does.
 fn give_bound(
     past: &Before,
     spans: &[Span],
@@ -165,7 +165,7 @@ fn give_absence(
     }
 }
 
-/// Fills the desk's list anew with the facts by which a crowd pushes a span, and answers what follows.
+/// Replaces the desk's facts by those by which a crowd pushes a span, and returns what follows.
 pub(crate) fn give(
     past: &Before,
     spans: &[Span],

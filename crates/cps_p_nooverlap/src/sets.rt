@@ -86,7 +86,7 @@ fn push_both(
     Ok(())
 }
 
-/// A window that holds too much, if one is found.
+/// An overloaded window, if one is found.
 fn overload(past: &Before, spans: &[Span], desk: &mut Desk) -> Result<Option<Overload>, AllocError>
     requires { AreSpans past.now.first spans.now }
     ensures { IfOk result (λ answer. IfSome answer (λ window. IsImpossible (BodyOf.NoOverlap spans.now) past.now)) }
@@ -124,7 +124,7 @@ fn push_first(
     Ok(())
 }
 
-/// Adds what crowds give of each job, or finds a window that leaves no way.
+/// Adds what crowds imply of each job, or finds an overloaded window.
 fn meet_sets(
     past: &Before,
     spans: &[Span],
@@ -172,7 +172,7 @@ pub(crate) fn meet_both(
     Ok(hint)
 }
 
-/// Fills a list anew with the facts by which a window leaves no way.
+/// Replaces `facts` by those by which a window is overloaded.
 fn refute_set(
     past: &Before,
     spans: &[Span],
@@ -192,7 +192,7 @@ fn refute_set(
     refute_anew(past, spans, desk.marks.whole.as_slice(), loose, facts)
 }
 
-/// Fills the desk's list anew with the facts by which a crowd gives a target.
+/// Replaces the desk's facts by those by which a crowd implies a target.
 fn explain_at(
     past: &Before,
     spans: &[Span],
@@ -240,7 +240,7 @@ fn explain_set(
     Ok(true)
 }
 
-/// Fills a list anew with the facts by which two spans or a set of them give a target.
+/// Replaces `facts` by those by which two spans or a set of them imply a target.
 pub(crate) fn explain_both(
     alloc: Global,
     past: &Before,
@@ -264,7 +264,7 @@ pub(crate) fn explain_both(
     }
 }
 
-/// Fills a list anew with the facts by which two spans leave no way.
+/// Replaces `facts` by those by which two spans must overlap.
 fn refute_two(
     past: &Before,
     spans: &[Span],
@@ -279,7 +279,7 @@ fn refute_two(
     refute_pair(past, spans, pair, facts)
 }
 
-/// Fills a list anew with the facts by which two spans or a set of them leave no way.
+/// Replaces `facts` by those by which two spans must overlap, or two of a set.
 pub(crate) fn refute_both(
     alloc: Global,
     past: &Before,

@@ -35,13 +35,13 @@ struct Limits {
 struct Layer<'a> {
     subject: u32,
     steps: &'a [Step],
-    /// The atom that is to be false, if there is one.
+    /// The atom that must be false, if there is one.
     goal: Option<Atom>,
     tails: &'a [bool],
     guide: &'a [bool],
 }
 
-/// Whether a subject cannot have a label since an atom is to be false.
+/// Whether a subject cannot have a label since an atom must be false.
 fn is_denied(goal: Option<Atom>, subject: u32, label: i64) -> bool
     ensures { IsTrue result → (xs : List ℤ) → Denied goal xs → value_at xs subject ≡ label → ⊥ }
 {
@@ -66,7 +66,7 @@ fn is_beyond(op: Op, bound: Option<i64>, number: i64) -> bool
     }
 }
 
-/// Whether a subject could have a label, where an atom is to be false.
+/// Whether a subject could have a label, where an atom must be false.
 fn was_open(past: &Before, goal: Option<Atom>, subject: u32, label: i64) -> bool
     requires { subject < length past.now.first }
 {
@@ -250,8 +250,7 @@ fn push_limits(
     Ok(Limits { low, high })
 }
 
-/// Whether a label is ruled out of a subject by the facts, to which the one that it is off it is added where that is
-/// needed.
+/// Whether the facts exclude `label` for `subject`. Adds the fact that the subject has another one where that is needed.
 fn rule_out(
     past: &Before,
     subject: u32,

@@ -3,7 +3,7 @@
 //! Value by value: a position may have a number exactly where that number's position in the other list may have its
 //! own. So both lists mirror each other. Beside that the values of each list differ, and the intervals that they fill
 //! are left to them (`Sides`); that says more than the mirror where several positions share several numbers.
-ghost use Rattle.std.specs.Prelude.{◌≡◌, ◌<◌, ℤ, pos, ◌≤ℤ◌, ◌<ℤ◌, true, length, Contains, All, OnOk, IfOk, IsTrue};
+ghost use Rattle.std.specs.Prelude.{◌≡◌, ◌<◌, ℤ, pos, ◌≤ℤ◌, ◌<ℤ◌, ◌-ℤ◌, true, false, length, Contains, All, OnOk, IfOk, IsTrue};
 ghost use Rattle.cps_literal.specs.Truth.{meets};
 ghost use Rattle.cps_instance.specs.declared.task.Body.{Body as BodyOf};
 ghost use Rattle.cps_propagate.specs.Now.{IsOpenTo};
@@ -240,10 +240,12 @@ fn keep_places(
     mirror(store, direct, inverse, found)
 }
 
-/// Whether each number of `count` places meets an atom.
+/// Whether an atom is a bound that each number of `count` places meets.
 fn is_wide(target: Atom, count: i64) -> bool
     requires { pos 0 ≤ℤ count }
-    ensures { IsTrue result → (x : ℤ) → pos 0 ≤ℤ x → x <ℤ count → meets target.op target.value x ≡ true }
+    ensures wide { IsTrue result → (x : ℤ) → pos 0 ≤ℤ x → x <ℤ count → meets target.op target.value x ≡ true }
+    ensures narrow { result ≡ false → (target.op ≡ Op.Ge → pos 0 <ℤ target.value)
+        × (target.op ≡ Op.Le → target.value <ℤ (count -ℤ pos 1)) }
 {
     match target.op {
         Op::Ge => target.value <= 0,

@@ -120,7 +120,7 @@ fn is_last_label(labels: &[i64], label: i64) -> bool
     }
 }
 
-/// Fills a list anew with the labels of the steps that are alive between marked states, rising.
+/// Replaces `labels` by those of the steps that are alive between marked states, rising.
 fn put_labels(
     store: &Store,
     position: &Position,
@@ -213,7 +213,7 @@ fn is_marked(row: &[bool], state: usize) -> bool
     row[state]
 }
 
-/// Fills a row anew with marks for `count` states, of which one is set.
+/// Replaces a row by marks for `count` states, of which one is set.
 pub(crate) fn mark_first(row: &mut Vec<bool>, first: usize, count: usize) -> Result<(), AllocError>
     requires { first < count }
     ensures size { OnOk result (length row.new.items ≡ count) }

@@ -137,7 +137,7 @@ pub(crate) fn steps_of(
     Ok(steps)
 }
 
-/// Fills a row anew with `count` marks, none of them set.
+/// Replaces a row by `count` marks, none of them set.
 pub(crate) fn blank(row: &mut Vec<bool>, count: usize) -> Result<(), AllocError>
     ensures size { OnOk result (length row.new.items ≡ count) }
     ensures blank { OnOk result ((q : ℕ) → q < length row.new.items → slice_index_or row.new.items q false ≡ false) }

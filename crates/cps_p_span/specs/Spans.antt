@@ -14,7 +14,7 @@ use Rattle.cps_instance.specs.Fitting.{IsLiteral}
 use Rattle.cps_trail.specs.Trail.{Trail, IsTrueNow, IsAdmitted, IsInside}
 use Rattle.cps_rule.specs.declared.rule.Narrowing.{Narrowing}
 use Rattle.cps_rule.specs.Rules.{IsImpossible}
-use Rattle.cps_propagate.specs.Now.{IsOpenTo, IsFixedNow}
+use Rattle.cps_propagate.specs.Now.{IsOpenTo, IsFixedNow, IsKnownNow}
 use Rattle.cps_propagate.specs.Strength.{MayEndAt, IsInOrder, FollowsWhereForced}
 use Rattle.cps_p_span.specs.declared.seen.Times.{Times}
 use Rattle.cps_p_span.specs.declared.seen.Presence.{Presence}
@@ -81,12 +81,15 @@ pub record AreTimes (s : Trail) (p : Span) (v : Times) : Type 0 where
   pub end_most : (e : ℤ) → MayEndAt s p.start p.end p.length e → e ≤ℤ v.end_high
   pub inside : AreTimesInside p v
 
--- whether a span is surely present, and which of its atoms alone may be false, where there is one
+-- Whether a span is surely present, and which of its atoms alone may be false, where there is one. That is an atom which
+-- alone is open while all others are true.
 pub record IsPresence (s : Trail) (us : List Atom) (v : Presence) : Type 0 where
   pub sure : IsTrue v.sure → All (IsTrueNow s) us
   pub unsure : v.sure ≡ false → All (IsTrueNow s) us → ⊥
   pub others : v.last < length us → (k : ℕ) (d : Atom) → k < length us → k ≢ v.last
       → IsTrueNow s (slice_index_or us k d)
+  pub only : (k : ℕ) (d : Atom) → k < length us → (IsKnownNow s (slice_index_or us k d) → ⊥)
+      → ((j : ℕ) (e : Atom) → j < length us → j ≢ k → IsTrueNow s (slice_index_or us j e)) → v.last ≡ k
 
 pub record IsSpanSeen (s : Trail) (p : Span) (v : Seen) : Type 0 where
   pub times : AreTimes s p v.times

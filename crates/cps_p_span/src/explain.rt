@@ -280,7 +280,7 @@ fn explain_absence(
     cite_clash(past, spans, pair, facts)
 }
 
-/// Fills a list anew with the facts by which two spans give a target.
+/// Replaces `facts` by those by which two spans imply a target.
 pub fn explain_pair(
     past: &Before,
     spans: &[Span],

@@ -3,11 +3,11 @@ ghost use Rattle.std.specs.Prelude.{ℤ, List, [], ◌∷◌, ◌≡◌, ◌<◌
 ghost use Rattle.std.specs.List.{list_all};
 ghost use Rattle.cps_literal.specs.Truth.{atom_holds};
 ghost use Rattle.cps_instance.specs.Tasks.{atom_subjects};
-ghost use Rattle.cps_trail.specs.Trail.{IsInside};
+ghost use Rattle.cps_trail.specs.Trail.{IsInside, IsTrueNow};
 ghost use Rattle.cps_p_span.specs.Citing.{Cites};
 ghost use Rattle.cps_p_span.specs.Spans.{IsSmallAtom};
 
-use cps_literal::{Atom, Truth};
+use cps_literal::Atom;
 use cps_trail::Before;
 use std::alloc::AllocError;
 
@@ -21,22 +21,21 @@ pub(crate) fn is_inside(value: i64) -> bool
     -FARTHEST <= value && value <= FARTHEST
 }
 
-/// Adds an atom where it was true, and says whether it was.
+/// Adds an atom where it was true and can stand in a fact, and says whether it was.
 pub fn cite(past: &Before, atom: Atom, facts: &mut Vec<Atom>) -> Result<bool, AllocError>
     requires { atom.subject < length past.now.first }
-    ensures { result ≡ Ok true → Cites past.now (atom.subject ∷ []) facts.old.items facts.new.items
+    ensures yes { result ≡ Ok true → Cites past.now (atom.subject ∷ []) facts.old.items facts.new.items
         (λ xs. atom_holds xs atom ≡ true) }
+    ensures no { result ≡ Ok false → IsInside atom.value → IsTrueNow past.now atom → ⊥ }
 {
     if !is_inside(atom.value) {
         return Ok(false);
     }
-    match past.truth(atom) {
-        Truth::Yes => {
-            facts.push(atom)?;
-            Ok(true)
-        }
-        _ => Ok(false),
+    if !past.truth(atom).is_yes() {
+        return Ok(false);
     }
+    facts.push(atom)?;
+    Ok(true)
 }
 
 /// Adds each of these atoms, if all were true.

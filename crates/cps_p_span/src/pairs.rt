@@ -189,7 +189,7 @@ fn meet(
     Ok(false)
 }
 
-/// Adds what one span gives with each that stands before it, or finds one with which it leaves no way.
+/// Adds what one span implies with each that stands before it, or finds one that it must overlap.
 fn meet_below(
     spans: &[Span],
     seen: &[Seen],

@@ -7,7 +7,7 @@ ghost use Rattle.cps_p_span.specs.Spans.{IsSpan, AreSpans, AreTimes, IsPresence,
 
 use crate::hull::hull_of;
 use cps_instance::Span;
-use cps_literal::{Atom, Truth};
+use cps_literal::Atom;
 use cps_trail::Store;
 use std::alloc::AllocError;
 
@@ -65,13 +65,14 @@ fn is_true(store: &Store, atom: Atom) -> bool
     requires { atom.subject < length store.now.first }
     ensures { IsTrue result ↔ IsTrueNow store.now atom }
 {
-    matches!(store.truth(atom), Truth::Yes)
+    store.truth(atom).is_yes()
 }
 
 /// The first place from `from` on whose atom is not true; the list's length where there is none.
 fn first_untrue(store: &Store, atoms: &[Atom], from: usize) -> usize
     requires from { from ≤ length atoms.now }
     requires subjects { All (λ u. u.subject < length store.now.first) atoms.now }
+    ensures begins { from ≤ result }
     ensures within { result ≤ length atoms.now }
     ensures passed { (k : ℕ) (d : AtomOf) → from ≤ k → k < result → IsTrueNow store.now (slice_index_or atoms.now k d) }
     ensures found { (d : AtomOf) → result < length atoms.now → IsTrueNow store.now (slice_index_or atoms.now result d)
@@ -98,7 +99,7 @@ fn presence_of(store: &Store, atoms: &[Atom]) -> Presence
             last: none,
         };
     }
-    let is_open = matches!(store.truth(atoms[open]), Truth::Undecided);
+    let is_open = store.truth(atoms[open]).is_open();
     if is_open && first_untrue(store, atoms, open + 1) == none {
         return Presence {
             sure: false,

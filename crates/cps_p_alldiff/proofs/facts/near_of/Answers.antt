@@ -4,8 +4,8 @@ use Rattle.cps_literal.specs.declared.atom.Op.TheVariants.{Le, Ge}
 use Rattle.cps_p_alldiff.proofs.BarAtoms.{bound_low, bound_high}
 use Rattle.cps_p_alldiff.proofs.facts.near_of.Goals as goal
 
-pub returns-then-target-hall : goal.returns-then-target-hall
-returns-then-target-hall c =
+pub returns-then-target-hall-clause-some : goal.returns-then-target-hall-clause-some
+returns-then-target-hall-clause-some c =
     let h = c.args.hall.now in
     let t = c.args.target in
     let fl : FitsSigned w64 h.low = search rules in
@@ -13,8 +13,8 @@ returns-then-target-hall c =
     let a : t.value ≤ℤ (h.high +ℤ pos 1) = search (rules, ints) in
     rw (to_z-of_z w64 h.low fl) (bound_low t h c.requires is-ge a)
 
-pub returns-then-hall-target : goal.returns-then-hall-target
-returns-then-hall-target c =
+pub returns-then-hall-target-clause-some : goal.returns-then-hall-target-clause-some
+returns-then-hall-target-clause-some c =
     let h = c.args.hall.now in
     let t = c.args.target in
     let fh : FitsSigned w64 h.high = search rules in

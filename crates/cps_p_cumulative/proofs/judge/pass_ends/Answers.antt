@@ -1,9 +1,9 @@
-use Rattle.std.proofs.Common.{◌≤ℤ◌, pos, get_or, length, subst, rules, FitsSigned, w64}
+use Rattle.std.proofs.Common.{◌≤ℤ◌, ◌<ℤ◌, pos, get_or, length, subst, rules, FitsSigned, w64}
 use Rattle.std.proofs.lemmas.Int.{to_z-of_z}
 use mir.Syntax.{w128}
-use Rattle.cps_domain.proofs.Tests.{true_le}
+use Rattle.cps_domain.proofs.Tests.{true_le, false_le}
 use Rattle.cps_p_cumulative.specs.declared.part.Part.{Part}
-use Rattle.cps_p_cumulative.proofs.DemandSums.{ended_more, passes_more, passes_none, fewer_left}
+use Rattle.cps_p_cumulative.proofs.DemandSums.{ended_more, passes_more, passes_none, fewer_left, stops_late, stops_over, stops_last}
 use Rattle.cps_p_cumulative.proofs.judge.pass_ends.Goals as goal
 
 abbrev no_part : Part
@@ -65,3 +65,19 @@ returns-after-loop-place-clause-ended c = (let f : FitsSigned w64 c.args.time = 
 
 pub returns-after-loop-place-clause-passes : goal.returns-after-loop-place-clause-passes
 returns-after-loop-place-clause-passes c = c.loop-place.invariant.passes
+
+pub returns-else-ends-place-2-clause-stops : goal.returns-else-ends-place-2-clause-stops
+returns-else-ends-place-2-clause-stops c = stops_over c.args.ends.now _ c.args.time no_part c.loop-place-test.true c.if-ends-place-2.false
+
+pub returns-else-ends-place-clause-stops : goal.returns-else-ends-place-clause-stops
+returns-else-ends-place-clause-stops c =
+    let p = get_or c.args.ends.now c.loop-place.place no_part in
+    let f : FitsSigned w64 c.args.time = search rules in
+    let g : FitsSigned w128 p.to = search rules in
+    let h : FitsSigned w128 c.from.result = search rules in
+    let time = rw (to_z-of_z w64 c.args.time f) at c.from.ensures in
+    let past = false_le p.to c.from.result (simp to_z-of_z at c.if-ends-place.false) in
+    stops_late c.args.ends.now _ c.args.time no_part c.loop-place-test.true (subst (λ z. z <ℤ p.to) time past)
+
+pub returns-after-loop-place-clause-stops : goal.returns-after-loop-place-clause-stops
+returns-after-loop-place-clause-stops c = stops_last c.args.ends.now _ c.args.time c.loop-place-test.false

@@ -15,7 +15,7 @@ returns c e =
     let P : List ℤ → Type 0 = λ xs. atom_holds xs c.args.support.one ≡ true in
     let Q : List ℤ → Type 0 = λ xs. atom_holds xs c.args.support.other ≡ true in
     cites_then s (i ++ j) c.args.facts.now.items c.cite.new.facts.items c.cite-2.new.facts.items P Q
-    (cites_left s i j c.args.facts.now.items c.cite.new.facts.items P (c.cite.ensures one)) (cites_right s i j c.cite.new.facts.items c.cite-2.new.facts.items Q (c.cite-2.ensures e))
+    (cites_left s i j c.args.facts.now.items c.cite.new.facts.items P (c.cite.ensures.yes one)) (cites_right s i j c.cite.new.facts.items c.cite-2.new.facts.items Q (c.cite-2.ensures.yes e))
 
 pub returns-then-not-branch : goal.returns-then-not-branch
 returns-then-not-branch c e = refused e
@@ -26,4 +26,4 @@ returns-then-eq c e =
     let same : c.args.support.one ≡ c.args.support.other = search rules in
     cites_as c.args.past.now (c.args.support.one.subject ∷ c.args.support.other.subject ∷ []) c.args.facts.now.items c.cite.new.facts.items (λ xs. atom_holds xs c.args.support.one ≡ true) (λ xs. (atom_holds xs c.args.support.one ≡ true) × (atom_holds xs c.args.support.other ≡ true))
     (λ xs h. (h, subst (λ (u : Atom). atom_holds xs u ≡ true) same h))
-    (cites_left c.args.past.now (c.args.support.one.subject ∷ []) (c.args.support.other.subject ∷ []) c.args.facts.now.items c.cite.new.facts.items (λ xs. atom_holds xs c.args.support.one ≡ true) (c.cite.ensures one))
+    (cites_left c.args.past.now (c.args.support.one.subject ∷ []) (c.args.support.other.subject ∷ []) c.args.facts.now.items c.cite.new.facts.items (λ xs. atom_holds xs c.args.support.one ≡ true) (c.cite.ensures.yes one))

@@ -1,5 +1,5 @@
 -- A test that holds leaves no interval; where all fail, there is one.
-use Rattle.std.proofs.Common.{◌<ℤ◌, ◌+ℤ◌, pos, inl, inr, rules, arith}
+use Rattle.std.proofs.Common.{◌<ℤ◌, ◌+ℤ◌, pos, inl, inr, refl, rules, arith}
 use Rattle.std.proofs.lemmas.Int.{ints, clamps}
 use Rattle.cps_p_interval.specs.Intervals.{least_end}
 use Rattle.cps_p_interval.proofs.Bounding.{impossible}
@@ -46,3 +46,25 @@ returns-clause-none c none =
     let second = c.if-hulls-max.false in
     let third = c.if-hulls.false in
     record { some = omega (arith, ints, clamps); not_before = omega (arith, ints, clamps); not_after = omega (arith, ints, clamps) }
+
+pub returns-then-hulls-lt0-clause-test : goal.returns-then-hulls-lt0-clause-test
+returns-then-hulls-lt0-clause-test c =
+    let less : c.args.hulls.size.high <ℤ pos 0 = search rules in
+    inl (refl, less)
+
+pub returns-then-hulls-max-clause-test : goal.returns-then-hulls-max-clause-test
+returns-then-hulls-max-clause-test c =
+    let a = c.requires.start_low in
+    let b = c.requires.start_high in
+    let d = c.requires.end_low in
+    let e = c.requires.end_high in
+    let f = c.requires.size_low in
+    let g = c.requires.size_high in
+    let test = c.if-hulls-max.true in
+    let less : c.args.hulls.end.high <ℤ least_end c.args.hulls = omega (arith, ints, clamps) in
+    inr (inl (refl, less))
+
+pub returns-then-hulls-clause-test : goal.returns-then-hulls-clause-test
+returns-then-hulls-clause-test c =
+    let less : (c.args.hulls.start.high +ℤ c.args.hulls.size.high) <ℤ c.args.hulls.end.low = search rules in
+    inr (inr (refl, less))

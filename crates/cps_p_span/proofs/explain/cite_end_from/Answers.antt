@@ -13,4 +13,4 @@ returns-in-None c e = refused e
 pub returns-in-Some : goal.returns-in-Some
 returns-in-Some c e =
     let f : FitsSigned w128 c.args.time = c.ranges.time in
-    cites_said c.args.past.now c.args.facts.now.items c.cite.new.facts.items c.args.span.now c.in-Some.atom (λ xs. c.args.time ≤ℤ end_at xs c.args.span.now) (rw (to_z-of_z w128 c.args.time f) at c.in-Some.ensures) (c.cite.ensures e)
+    cites_said c.args.past.now c.args.facts.now.items c.cite.new.facts.items c.args.span.now c.in-Some.atom (λ xs. c.args.time ≤ℤ end_at xs c.args.span.now) (rw (to_z-of_z w128 c.args.time f) at c.in-Some.ensures) (c.cite.ensures.yes e)

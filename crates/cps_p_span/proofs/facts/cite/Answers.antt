@@ -5,18 +5,11 @@ use Rattle.cps_literal.specs.declared.atom.Atom.{Atom}
 use Rattle.cps_literal.specs.Truth.{atom_holds}
 use Rattle.cps_p_span.specs.Citing.{Cites}
 use Rattle.cps_p_span.proofs.Citing.{Cites-push}
-use Rattle.cps_p_span.proofs.Refusing.{refused}
 use Rattle.cps_p_span.proofs.facts.cite.Goals as goal
 
-pub returns-in_ok-push-in-Yes : goal.returns-in_ok-push-in-Yes
-returns-in_ok-push-in-Yes c e =
+pub returns-clause-yes : goal.returns-clause-yes
+returns-clause-yes c e =
     let f : FitsSigned w64 c.args.atom.value = search rules in
     let inside = rw (to_z-of_z w64 c.args.atom.value f) at (c.is_inside.ensures.0 c.if-not-is_inside.false) in
-    subst (λ (us : List Atom). Cites c.args.past.now (c.args.atom.subject ∷ []) c.args.facts.now.items us (λ xs. atom_holds xs c.args.atom ≡ true)) (sym c.in_ok-push-in-Yes.ensures.items)
-    (Cites-push c.args.past.now c.args.facts.now.items c.args.atom c.requires inside (c.truth.ensures.yes.0 c.in-Yes.is))
-
-pub returns-in_default : goal.returns-in_default
-returns-in_default c e = refused e
-
-pub returns-then-not-is_inside : goal.returns-then-not-is_inside
-returns-then-not-is_inside c e = refused e
+    subst (λ (us : List Atom). Cites c.args.past.now (c.args.atom.subject ∷ []) c.args.facts.now.items us (λ xs. atom_holds xs c.args.atom ≡ true)) (sym c.in_ok-push.ensures.items)
+    (Cites-push c.args.past.now c.args.facts.now.items c.args.atom c.requires inside (c.truth.ensures.yes.0 (c.is_yes.ensures.0 c.if-not-is_yes.false)))

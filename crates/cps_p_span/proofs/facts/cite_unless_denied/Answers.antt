@@ -6,4 +6,4 @@ use Rattle.cps_p_span.proofs.facts.cite_unless_denied.Goals as goal
 
 pub returns : goal.returns
 returns c e =
-    cites_as c.args.past.now (c.args.atom.subject ∷ []) c.args.facts.now.items c.cite.new.facts.items (λ xs. atom_holds xs c.args.atom ≡ true) (λ xs. atom_holds xs c.args.target ≡ false → atom_holds xs c.args.atom ≡ true) (λ xs h n. h) (c.cite.ensures e)
+    cites_as c.args.past.now (c.args.atom.subject ∷ []) c.args.facts.now.items c.cite.new.facts.items (λ xs. atom_holds xs c.args.atom ≡ true) (λ xs. atom_holds xs c.args.target ≡ false → atom_holds xs c.args.atom ≡ true) (λ xs h n. h) (c.cite.ensures.yes e)

@@ -13,7 +13,7 @@ returns c e =
     let at = at_from_Contains is t.subject (c.is_among.ensures c.if-not-is_among.false) in
     seen_explained c.args.self.now c.self.inside.subjects.items is c.self.view_is c.as_slice-subjects.ensures.value s t c.add_near.new.facts.items
     (explained s is c.in-Some.hall t at.0 c.numbers-needed.result c.hold.new.facts.items c.add_near.new.facts.items c.in-Some.ensures c.numbers-needed.ensures.is at.1 (at.2 0)
-    (c.in_ok-hold.ensures c.if-not-branch.false) (c.in_ok-given.ensures (is_yes c.in_ok-given.given e)))
+    (c.in_ok-hold.ensures c.if-not-branch.false) (c.in_ok-given.ensures.yes (is_yes c.in_ok-given.given e)))
 
 pub returns-then-not-branch : goal.returns-then-not-branch
 returns-then-not-branch c = λ e. no_not_yes _ e

@@ -7,7 +7,7 @@ use Rattle.cps_p_interval.proofs.interval.IntervalRule.refute.Goals as goal
 pub returns-else-eq : goal.returns-else-eq
 returns-else-eq c e =
     let one : c.cite_both.result ≡ Ok true = search rules in
-    opposed c.args.past.now c.args.self.now.places c.in-Some.support c.in-Some.last c.clear.new.self.items c.cite_both.new.facts.items c.cite.new.facts.items c.clear.ensures.items c.in-Some.ensures (c.cite_both.ensures one) (c.cite.ensures e)
+    opposed c.args.past.now c.args.self.now.places c.in-Some.support c.in-Some.last c.clear.new.self.items c.cite_both.new.facts.items c.cite.new.facts.items c.clear.ensures.items c.in-Some.ensures (c.cite_both.ensures one) (c.cite.ensures.yes e)
 
 pub returns-then-eq : goal.returns-then-eq
 returns-then-eq c e =

@@ -36,7 +36,7 @@ returns-then-is_among c e =
     let count = to_z_pos w64 (length ds) small in
     let place = placed b (pos (length ds)) ds t.subject (c.is_among.ensures c.if-is_among.true)
     (seen_direct_places b c.self.inside.direct.items c.self.inside.inverse.items ds js c.self.view_is c.as_slice-direct.ensures.value c.as_slice-inverse.ensures.value (even_of c.args.self.now c.self.inside.direct.items c.self.inside.inverse.items (sym c.self.view_is) c.args.past.now.first c.requires.fits)) in
-    place_explained b c.args.past.now t _ c.clear.new.self.items c.clear.ensures.items (c.is_wide.ensures c.if-not-is_wide.false) (subst (λ (z : ℤ). HasPlace b t.subject z) (sym count) place)
+    place_explained b c.args.past.now t _ c.clear.new.self.items c.clear.ensures.items (c.is_wide.ensures.wide c.if-not-is_wide.false) (subst (λ (z : ℤ). HasPlace b t.subject z) (sym count) place)
 
 pub returns-else-is_among : goal.returns-else-is_among
 returns-else-is_among c e =
@@ -48,7 +48,7 @@ returns-else-is_among c e =
     let count = to_z_pos w64 (length ds) small in
     let place = placed b (pos (length ds)) js t.subject (c.is_among-in_default.ensures (is_yes c.is_among-in_default.result e))
     (seen_inverse_places b c.self.inside.direct.items c.self.inside.inverse.items ds js c.self.view_is c.as_slice-direct.ensures.value c.as_slice-inverse.ensures.value (even_of c.args.self.now c.self.inside.direct.items c.self.inside.inverse.items (sym c.self.view_is) c.args.past.now.first c.requires.fits)) in
-    place_explained b c.args.past.now t _ c.clear.new.self.items c.clear.ensures.items (c.is_wide.ensures c.if-not-is_wide.false) (subst (λ (z : ℤ). HasPlace b t.subject z) (sym count) place)
+    place_explained b c.args.past.now t _ c.clear.new.self.items c.clear.ensures.items (c.is_wide.ensures.wide c.if-not-is_wide.false) (subst (λ (z : ℤ). HasPlace b t.subject z) (sym count) place)
 
 pub returns-then-not-is_wide : goal.returns-then-not-is_wide
 returns-then-not-is_wide c e = absurd (true≢false (sym (is_yes _ e)))
