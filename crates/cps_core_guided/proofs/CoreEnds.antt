@@ -20,12 +20,13 @@ use Rattle.cps_search.specs.declared.end.Phase.TheVariants.{Deciding, Stepping, 
 use Rattle.cps_search.specs.declared.end.WorkerKind.TheVariants.{CoreGuided}
 use Rattle.cps_search.specs.Ends.{EndsBy, HasCore, IsHonestEnding, IsWhy, LastSawMet, RaisedToZ, ending}
 use Rattle.cps_search.specs.Following.{MovesWith, best_bound}
+use Rattle.cps_search.specs.Logged.{Log, IsLogAt}
 use Rattle.cps_search.specs.Moves.{fresh}
 use Rattle.cps_search.specs.Assumptions.{IsCoreBelow, IsSufficient}
 use Rattle.cps_search.specs.Searches.{IsFound, IsSoundSearch, NoneBelow, IsInPhase, Search}
 use Rattle.cps_search.proofs.RunEnds.{honest_by}
 use Rattle.cps_core_guided.specs.CoreTurns.{BeginsCore, HasCoreAt, HasNoCore, RunsCoreTo, RunsInCoreTurns, core_ending}
-use Rattle.cps_core_guided.specs.Reforming.{CoreSearch, IsSoundCore, phase_of, whole, whole_core}
+use Rattle.cps_core_guided.specs.Reforming.{CoreSearch, IsSoundCore, core_seen, phase_of, whole, whole_core}
 use Rattle.cps_core_guided.proofs.CoreRuns.{core-of-frame, core-of-own, core-turns-run, whole-core-below}
 use Rattle.cps_core_guided.proofs.CoreTurnCauses.{phase-search}
 
@@ -80,6 +81,7 @@ sound-whole s h =
       best = found-whole s s.search.best k.best;
       raised = raised-whole s.search.instance.model s.search.raised s.raised k.raised h.raised;
       phase = in-phase s h;
+      logged = subst (λ (l : Option Log). IfSome l (IsLogAt s.search.instance s.search.z (core_seen s) s.search.base.journal (phase_of s))) (sym h.no_log) tt;
     }
 
 -- ---- it is honest
@@ -151,5 +153,5 @@ core-honest chooses hears stays p gap budget rows s t part q end begins h before
     moves-begun (whole s.0) new (whole t.0) part q (sym (ap (λ (x : Search). x.z) was)) runs.setting.model (sym (ap (λ (x : Search). x.best) was))
     (sym (ap (λ (o : Option Bound). greater_of s.0.search.raised o) begins.raised ∙ ap (λ (x : Search). x.raised) was)) (sym (ap (λ (x : Search). x.imported) was)) runs.moves in
     subst (λ (m : CpModel). IsHonestEnding m gap budget q.bounds (core_ending end t.0)) (runs.setting.model ∙ begins.instance)
-    (honest_by g gap budget (Some budget) (whole t.0) part q CoreGuided None end refl (has-core g.model end (whole t.0) q.bounds (runs.core none) refl runs.why) moves (sound-whole t.0 sound) offered raised (within-some t.0.search.budget budget t.0.search.tally capped sound.search.within_budget)
+    (honest_by g gap budget (Some budget) (whole t.0) part q CoreGuided None end refl (has-core g.model end (whole t.0) q.bounds (runs.core none) refl runs.why) moves (sound-whole t.0 sound) offered raised (within-some t.0.search.budget budget t.0.search.tally capped sound.search.within_budget) runs.phase
     (why-of (whole t.0) gap budget q.bounds end end (runs.setting.gap ∙ ap (λ (x : Search). x.gap) was) capped runs.why))

@@ -108,6 +108,6 @@ pub works-frame : (s : CoreSearch) (t : Search) (scope scope' : Scope) (agrees a
     → t.imported ≤ 4096 → kept' ≤ length t.store.entries → agrees' kept' → IsCoreWorking (record s { search = t }) scope' agrees' kept'
 works-frame s t scope scope' agrees agrees' kept kept' h sound setting falls running store same few within agreed =
     let longer : length t.instance.domains ≡ length s.search.instance.domains = ap (λ (p : Problem). length p.domains) setting.instance in
-    works-core s (record s { search = t }) scope scope' agrees agrees' kept kept' h (sound-stepped s t h.sound sound setting.instance falls running store)
+    works-core s (record s { search = t }) scope scope' agrees agrees' kept kept' h (sound-stepped s t h.sound sound setting.instance setting.logs falls running store)
     (record { model = ap (λ (p : Problem). p.model) setting.instance; gap = setting.gap; budget = setting.budget; refused = setting.refused; greatest = refl })
     (omega (arith, longer)) same few within agreed

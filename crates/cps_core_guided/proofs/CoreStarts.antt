@@ -64,6 +64,7 @@ module _ (p : Problem) (gap budget : ℕ) (s t : Search) (ts : List Term) (f : F
         omega (arith, more, terms_few, few);
     raised = tt;
     ended = λ e. absurd (cc e);
+    no_log = ap (λ (x : Search). x.log) new-fresh;
   }
 
   pub new-begins : BeginsCore p gap budget (beginning t f greatest)

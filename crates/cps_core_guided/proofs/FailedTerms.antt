@@ -30,7 +30,7 @@ use Rattle.cps_core_guided.proofs.Reforms.{base-bound}
 
 -- a search that went back to level 0 is sound
 pub sound-bottom : (s : CoreSearch) (bottom : Trail) (rest : Rest) → IsSoundCore s → IsSoundSearch (moved s.search bottom rest) → IsSoundTrail bottom → bottom.level ≡ 0 → s.ended ≡ false → IsSoundCore (record s { search = moved s.search bottom rest })
-sound-bottom s bottom rest h sound store level running = sound-search s (moved s.search bottom rest) h sound refl (BoundLe-refl s.search.z) running (λ few. assumes-bottom s.search.instance.model.assumptions bottom s.form.terms store level)
+sound-bottom s bottom rest h sound store level running = sound-search s (moved s.search bottom rest) h sound refl refl (BoundLe-refl s.search.z) running (λ few. assumes-bottom s.search.instance.model.assumptions bottom s.form.terms store level)
 
 -- the decisions behind the assumption that failed are assumptions
 pub has-failed : (s : CoreSearch) (bottom : Trail) (rest : Rest) (place : ℕ) (decisions : List Atom) → IsSoundCore s → IsSoundTrail s.search.store → s.sums < most_sums → IsFailed s.search.store s.form.terms place → bottom.level ≡ 0

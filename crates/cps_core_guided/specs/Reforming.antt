@@ -1,5 +1,5 @@
 -- How a core-guided worker reforms its objective, and what it keeps.
-use Rattle.std.specs.Prelude.{◌≡◌, ℕ, ◌+◌, ◌≤◌, ◌<◌, ◌^◌, ℤ, pos, ◌+ℤ◌, ◌≤ℤ◌, unsigned_abs, if◌then◌else◌, Bool, true, Option, IfSome, List, [], length}
+use Rattle.std.specs.Prelude.{◌≡◌, ℕ, ◌+◌, ◌≤◌, ◌<◌, ◌^◌, ℤ, pos, ◌+ℤ◌, ◌≤ℤ◌, unsigned_abs, if◌then◌else◌, Bool, true, Option, None, IfSome, List, [], length}
 use Rattle.cps_model.specs.declared.bound.Bound.{Bound}
 use Rattle.cps_model.specs.declared.bound.Bound.TheVariants.{At, Infinite}
 use Rattle.cps_model.specs.declared.model.CpModel.{CpModel}
@@ -79,7 +79,7 @@ whole_core m (At z) = []
 whole_core m Infinite = m.assumptions
 
 -- What is true of a core-guided worker as long as it has memory. Its form is worth what the objective is, at every
--- assignment; and it has room for all sums to come.
+-- assignment; it has room for all sums to come; and it keeps no log.
 pub record IsSoundCore (s : CoreSearch) : Type 0 where
   pub search : IsSoundSearch s.search
   pub form : IsReform s.search.instance s.search.z s.form
@@ -91,3 +91,4 @@ pub record IsSoundCore (s : CoreSearch) : Type 0 where
   pub raised : IfSome s.raised (IsLowerBound s.search.instance.model)
   pub ended : s.ended ≡ true → NoneBelow s.search.instance.model s.search.z
       × (s.core ≡ whole_core s.search.instance.model s.search.z)
+  pub no_log : s.search.log ≡ None

@@ -3,6 +3,7 @@
 ghost use Rattle.std.specs.Prelude.{◌≡◌, Some, IfSome, IsNone};
 
 use cps_clauses::Journal;
+use cps_log::LogItem;
 use cps_model::{Bound, Refs};
 use cps_port::raised_to;
 use cps_search::{End, Ended};
@@ -92,5 +93,13 @@ impl CoreEnded {
             Some(core) => core.as_slice(),
             None => self.ended.core(),
         }
+    }
+
+    /// The items of its log, if it kept one.
+    pub fn log(&self) -> Option<&[LogItem]>
+        ensures none { IsNone result → IsNone self.now.log }
+        ensures some { IfSome result (λ items. self.now.log ≡ Some items.now) }
+    {
+        self.ended.log()
     }
 }

@@ -112,7 +112,7 @@ pub(crate) fn begin<'a, P: Defining>(
     ensures small { IfOk result (λ b. unsigned_abs b.greatest < 2 ^ 62) }
     ensures longer { IfOk result (λ b. length instance.entry.domains ≤ length b.frame.instance.domains) }
 {
-    let mut frame = Frame::new(alloc, instance, engine, Some(budget), gap)?;
+    let mut frame = Frame::new(alloc, instance, engine, Some(budget), gap, None)?;
     let (reform, greatest) = objective_form(alloc, &mut frame)?;
     Ok(Beginning {
         frame,

@@ -1,6 +1,6 @@
 -- How a worker keeps what it keeps between two turns, where it decides.
-use Rattle.std.specs.Prelude.{All, max}
-use Rattle.std.proofs.Common.{ℕ, ◌+◌, ◌*◌, ◌≤◌, ◌<◌, ℤ, ◌≡◌, ◌∙◌, inl, inr, pos, negsuc, Bool, true, false, cond, Option, Some, None, List, [], ◌∷◌, length, get_or, refl, sym, ap, subst, arith, length-append}
+use Rattle.std.specs.Prelude.{All, is_some, max}
+use Rattle.std.proofs.Common.{ℕ, ◌+◌, ◌*◌, ◌≤◌, ◌<◌, ℤ, ◌≡◌, ◌∙◌, inl, inr, pos, negsuc, Bool, true, false, true≢false, cond, Option, Some, None, List, [], ◌∷◌, length, get_or, refl, sym, ap, subst, arith, length-append}
 use Rattle.std.proofs.lemmas.List.Elements.{All-cons, All-nil}
 use Rattle.cps_literal.specs.declared.atom.Atom.{Atom}
 use Rattle.cps_literal.specs.declared.atom.Op.TheVariants.{Eq, Ge, Le}
@@ -16,6 +16,7 @@ use Rattle.cps_search.specs.Assumptions.{IsAssumedNext, NoneIsOpen, assumption_a
 use Rattle.cps_search.specs.Searches.{IsSoundSearch, Search}
 use Rattle.cps_search.specs.declared.end.Phase.{Phase}
 use Rattle.cps_search.specs.declared.end.Phase.TheVariants.{Deciding, Stepping}
+use Rattle.cps_search.specs.Logged.{Log}
 use Rattle.cps_search.specs.Moves.{decided, moved}
 use Rattle.cps_search.specs.Turns.{SameSetting}
 use Rattle.cps_search.specs.Ends.{Decides, DecidesAssumption, IsOver, round_conflicts, round_count}
@@ -55,12 +56,18 @@ due_runs phase e = subst (λ (x : Phase). IsOver x → ⊥) (sym e) (λ h. h)
 pub not_over : (phase : Phase) → phase ≡ Stepping → IsOver phase → ⊥
 not_over phase e = subst (λ (x : Phase). IsOver x → ⊥) (sym e) (λ h. h)
 
+-- a search without a log has none after a turn
+unlogged : (a b : Option Log) → is_some a ≡ is_some b → b ≡ None → a ≡ None
+unlogged None b same none = refl
+unlogged (Some l) b same none = absurd (true≢false (same ∙ ap (λ (o : Option Log). is_some o) none))
+
 pub explores_on : {P : Type 0} (x y : Explorer P) → IsExploring x → IsSoundSearch y.frame → SameSetting x.frame y.frame → y.frame.imported ≤ 4096 → length y.brancher.activities ≡ length x.brancher.activities
     → y.conflicts ≡ x.conflicts → y.aim ≡ x.aim → y.kept ≤ length y.frame.store.entries → AreFixedAside (length y.brancher.activities) y.brancher.aside y.frame.store y.kept → y.rounds ≤ round_count x.conflicts
     → y.frame.tally ≤ round_conflicts * y.rounds + learnt_in (round_if y.in_round y.round) → (y.in_round ≡ false → y.frame.store.level ≡ 0) → ((IsOver y.frame.phase → ⊥) → y.in_round ≡ true → IsUnderWay y.round y.frame.store) → IsExploring y
 explores_on x y h sound setting imported size conflicts aim within agreed rounds tally between under_way = record {
   sound = sound;
   running = setting.refused ∙ h.running;
+  no_log = unlogged y.frame.log x.frame.log setting.logs h.no_log;
   scope = subst (λ (n : ℕ). IsScopeOf y.frame.instance (record { variables = n; subjects = n })) (sym size) (subst (λ (p : Problem). IsScopeOf p (record { variables = length x.brancher.activities; subjects = length x.brancher.activities })) (sym setting.instance) h.scope);
   budget = setting.budget ∙ h.budget;
   conflicts = omega (arith, conflicts, h.conflicts);
@@ -92,7 +99,7 @@ open_decided x y a h due on first held is sound brancher kept conflicts aim roun
     let trail : y.frame.store ≡ decided s a = ap (λ (z : Search). z.store) is in
     let level : y.frame.store.level ≡ s.level + 1 = ap (λ (t : Trail). t.level) trail in
     let size : length y.brancher.activities ≡ length x.brancher.activities = ap (λ (b : _). length b.activities) brancher in
-    explores_on x y h sound (setting_of x.frame (moved x.frame (decided s a) x.frame.rested) y.frame is refl refl refl refl)
+    explores_on x y h sound (setting_of x.frame (moved x.frame (decided s a) x.frame.rested) y.frame is refl refl refl refl refl)
     (omega (arith, ap (λ (z : Search). z.imported) is, h.imported)) size conflicts aim
     (omega (arith, kept, h.within, ap (λ (t : Trail). length t.entries) trail, length-append s.entries (e ∷ [])))
     (subst (λ (b : _). AreFixedAside (length b.activities) b.aside y.frame.store y.kept) (sym brancher)
@@ -140,7 +147,7 @@ assumption_decided x y h due on d sound brancher kept conflicts aim rounds in_ro
     let level : y.frame.store.level ≡ s.level + 1 = ap (λ (t : Trail). t.level) trail in
     let size : length y.brancher.activities ≡ length x.brancher.activities = ap (λ (b : _). length b.activities) brancher in
     let way = h.under_way (due_runs x.frame.phase due) on in
-    explores_on x y h sound (setting_of x.frame (moved x.frame (decided s a) x.frame.rested) y.frame d.is refl refl refl refl)
+    explores_on x y h sound (setting_of x.frame (moved x.frame (decided s a) x.frame.rested) y.frame d.is refl refl refl refl refl)
     (omega (arith, ap (λ (z : Search). z.imported) d.is, h.imported)) size conflicts aim
     (omega (arith, kept, h.within, ap (λ (t : Trail). length t.entries) trail, length-append s.entries (e ∷ [])))
     (subst (λ (b : _). AreFixedAside (length b.activities) b.aside y.frame.store y.kept) (sym brancher)
@@ -200,7 +207,7 @@ chosen_decided x y h due on none d sound size kept saw levels conflicts aim roun
     let a = d.atom in
     let e : Entry = record { atom = a; level = s.level + 1; reason = Decision } in
     let trail : y.frame.store ≡ decided s a = ap (λ (z : Search). z.store) d.is in
-    explores_on x y h sound (setting_of x.frame (moved x.frame (decided s a) x.frame.rested) y.frame d.is refl refl refl refl)
+    explores_on x y h sound (setting_of x.frame (moved x.frame (decided s a) x.frame.rested) y.frame d.is refl refl refl refl refl)
     (omega (arith, ap (λ (z : Search). z.imported) d.is, h.imported)) size conflicts aim
     (omega (arith, kept, ap (λ (t : Trail). length t.entries) trail, length-append s.entries (e ∷ [])))
     (subst (λ (k : ℕ). AreFixedAside (length y.brancher.activities) y.brancher.aside y.frame.store k) (sym kept)
@@ -328,6 +335,7 @@ explores_placed x r h learnt way = record {
   conflicts = h.conflicts;
   imported = h.imported;
   within = h.within;
+  no_log = h.no_log;
   agreed = h.agreed;
   variables = h.variables;
   few_variables = h.few_variables;

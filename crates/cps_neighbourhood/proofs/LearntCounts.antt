@@ -203,5 +203,5 @@ near_honest p gap conflicts rows draws s t part q end begins h offered raised =
     (core_of p kinds.Near None t.search end s.search (runs.setting.instance ∙ ap (λ (x : Search). x.instance) begins.search) (ap (λ (x : Search). x.raised) begins.search) (ap (λ (x : Search). x.core) begins.search)
     (λ e. subst (λ (x : End). NearEndsBy t q.bounds x) e runs.why) runs.raises_last)
     (subst (λ (x : Search). MovesWith x t.search part q) begins.search runs.moves) h.last.after offered raised
-    (omega (arith, counted.most, counted.whole, ap round_count same))
+    (omega (arith, counted.most, counted.whole, ap round_count same)) runs.phase
     (why_of t gap conflicts q.bounds end end (runs.setting.gap ∙ ap (λ (x : Search). x.gap) begins.search) same counted runs.why)

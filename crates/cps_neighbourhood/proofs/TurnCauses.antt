@@ -22,10 +22,11 @@ use Rattle.cps_search.specs.declared.end.Phase.TheVariants.{Over}
 use Rattle.cps_search.specs.declared.turn.Turn.{Turn}
 use Rattle.cps_search.specs.declared.turn.Turn.TheVariants as turns
 use Rattle.cps_search.specs.Following.{MovesWith}
+use Rattle.cps_search.specs.Logged.{Log}
 use Rattle.cps_search.specs.Moves.{decided, moved}
 use Rattle.cps_search.specs.Rounds.{EndsRounds}
 use Rattle.cps_search.specs.Searches.{IsSoundSearch, Search}
-use Rattle.cps_search.specs.Turns.{Caused, IsInferredAt, IsLess, IsOnward, Steps, TookNothing}
+use Rattle.cps_search.specs.Turns.{Caused, IsInferredAt, IsLess, IsOnward, SameSetting, Steps, TookNothing}
 use Rattle.cps_search.specs.Ends.{DecidedOne, Decides, IsOver, Lowers, fewer_rows, fewer_values, lesser_z, round_conflicts, round_count}
 use Rattle.cps_search.proofs.Bounds.{below_less, less_than}
 use Rattle.cps_search.proofs.TurnMoves.{saw_open, turn_moves}
@@ -68,7 +69,7 @@ turn_decided s t f rows p q left sound steps h =
     let same : round_now (record s { search = f }) ≡ round_now s = ap (λ (x : Problem). round_or_first (variable_count x) s.aim s.draws s.round) steps.setting.instance in
     let one : DecidedOne (ChoosesInRound (round_now s).decisions s.brancher) s.search t.search rows p q =
     decided_one (ChoosesInRound (round_now s).decisions s.brancher) s.search f t.search rows p q steps.cause (subst (λ (r : Round). Decides (ChoosesInRound r.decisions s.brancher) f t.search) same h.one) in
-    let setting = setting_trans s.search f t.search steps.setting (setting_of f (moved f (decided f.store h.one.atom) f.rested) t.search h.one.is refl refl refl refl) in
+    let setting = setting_trans s.search f t.search steps.setting (setting_of f (moved f (decided f.store h.one.atom) f.rested) t.search h.one.is refl refl refl refl refl) in
     let moves = turn_moves (ChoosesInRound (round_now s).decisions s.brancher) s.search t.search rows p q turns.Decided sound setting one in
     let round : t.round ≡ Some (round_now s) = h.rest.round ∙ ap (λ (r : Round). Some r) same in
     record {
@@ -229,25 +230,29 @@ done_search s f p q turns.Exhausted h = absurd h.cause
 done_search s f p q (turns.Spent clause below) h = absurd h.cause
 done_search s f p q (turns.Reformed base) h = absurd h.cause
 
-pub turn_done : (s : Near) (f : Search) (rows : ℕ) (p q : Part) (turn : Turn) → s.rounds ≡ round_count s.conflicts → EndsRounds s.search f p q turn → TakesNearTurn s (record s { search = f }) rows p q turn
-turn_done s f rows p q turns.SawClosed all h =
+-- where no log is kept, none is let go
+kept_setting : (s f : Search) → s.log ≡ None → SameSetting (record s { log = None }) f → SameSetting s f
+kept_setting s f none h = subst (λ (l : Option Log). SameSetting (record s { log = l }) f) (sym none) h
+
+pub turn_done : (s : Near) (f : Search) (rows : ℕ) (p q : Part) (turn : Turn) → s.search.log ≡ None → s.rounds ≡ round_count s.conflicts → EndsRounds s.search f p q turn → TakesNearTurn s (record s { search = f }) rows p q turn
+turn_done s f rows p q turns.SawClosed none all h =
     let same : SameRounds s (record s { search = f }) = record { rounds = refl; round = refl; draws = refl; brancher = refl } in
-    record { setting = h.setting; conflicts = refl; aim = refl; store = λ _. stays_there s.search.store f.store h.store; cause = (h.cause, same); moves = h.moves; ends = ap (λ (x : Search). x.phase) h.cause.same; lowers = λ e. absurd (cc e) }
-turn_done s f rows p q turns.RoundsDone all h =
+    record { setting = kept_setting s.search f none h.setting; conflicts = refl; aim = refl; store = λ _. stays_there s.search.store f.store h.store; cause = (h.cause, same); moves = h.moves; ends = ap (λ (x : Search). x.phase) h.cause.same; lowers = λ e. absurd (cc e) }
+turn_done s f rows p q turns.RoundsDone none all h =
     let same : SameRounds s (record s { search = f }) = record { rounds = refl; round = refl; draws = refl; brancher = refl } in
-    record { setting = h.setting; conflicts = refl; aim = refl; store = λ _. stays_there s.search.store f.store h.store; cause = (all, h.cause, same); moves = h.moves; ends = ap (λ (x : Search). x.phase) h.cause.is; lowers = λ e. absurd (cc e) }
-turn_done s f rows p q turns.Imported all h = absurd h.cause
-turn_done s f rows p q turns.Decided all h = absurd h.cause
-turn_done s f rows p q turns.Learnt all h = absurd h.cause
-turn_done s f rows p q turns.Found all h = absurd h.cause
-turn_done s f rows p q turns.Exhausted all h = absurd h.cause
-turn_done s f rows p q (turns.Spent clause below) all h = absurd h.cause
-turn_done s f rows p q (turns.Reformed base) all h = absurd h.cause
+    record { setting = kept_setting s.search f none h.setting; conflicts = refl; aim = refl; store = λ _. stays_there s.search.store f.store h.store; cause = (all, h.cause, same); moves = h.moves; ends = ap (λ (x : Search). x.phase) h.cause.is; lowers = λ e. absurd (cc e) }
+turn_done s f rows p q turns.Imported none all h = absurd h.cause
+turn_done s f rows p q turns.Decided none all h = absurd h.cause
+turn_done s f rows p q turns.Learnt none all h = absurd h.cause
+turn_done s f rows p q turns.Found none all h = absurd h.cause
+turn_done s f rows p q turns.Exhausted none all h = absurd h.cause
+turn_done s f rows p q (turns.Spent clause below) none all h = absurd h.cause
+turn_done s f rows p q (turns.Reformed base) none all h = absurd h.cause
 
 pub explores_done : {P : Type 0} (x : Explorer P) (f : Search) (p q : Part) (turn : Turn) → IsExploring x → IsSoundSearch f → EndsRounds x.frame f p q turn → IsExploring (record x { frame = f })
 explores_done x f p q turn h sound k =
     let d = done_search x.frame f p q turn k in
-    explores_on x (record x { frame = f }) h sound k.setting (omega (arith, d.0, h.imported)) refl refl refl
+    explores_on x (record x { frame = f }) h sound (kept_setting x.frame f h.no_log k.setting) (omega (arith, d.0, h.imported)) refl refl refl
     (omega (arith, h.within, ap (λ (t : Trail). length t.entries) k.store))
     (subst (λ (t : Trail). AreFixedAside (length x.brancher.activities) x.brancher.aside t x.kept) (sym k.store) h.agreed)
     h.rounds (omega (arith, d.1, h.tally)) (λ off. ap (λ (t : Trail). t.level) k.store ∙ h.between off) (λ not _. absurd (not d.2))

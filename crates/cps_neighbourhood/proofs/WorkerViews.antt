@@ -27,6 +27,7 @@ explores_aimed x a h same = record {
   conflicts = h.conflicts;
   imported = h.imported;
   within = h.within;
+  no_log = h.no_log;
   agreed = h.agreed;
   variables = same ∙ h.variables;
   few_variables = omega (arith, same, h.few_variables);

@@ -32,6 +32,7 @@ near_as refused s = record s { search = record s.search { refused = refused } }
 pub record IsExploring {P : Type 0} (x : Explorer P) : Type 0 where
   pub sound : IsSoundSearch x.frame
   pub running : x.frame.refused ≡ false
+  pub no_log : x.frame.log ≡ None
   pub scope : IsScopeOf x.frame.instance
       (record { variables = length x.brancher.activities; subjects = length x.brancher.activities })
   pub budget : x.frame.budget ≡ None

@@ -90,7 +90,7 @@ impl<'a, P: Propagator> Explorer<'a, P> {
         let Course { conflicts, draws } = course;
         let brancher = ActivityBrancher::of(alloc, &instance)?;
         let aim = Aim::new(alloc, instance.variable_count())?;
-        let frame = Frame::new(alloc, instance, engine, None, gap)?;
+        let frame = Frame::new(alloc, instance, engine, None, gap, None)?;
         Ok(Explorer {
             alloc,
             frame,

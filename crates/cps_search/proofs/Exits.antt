@@ -1,9 +1,9 @@
 -- What is asked of one kind of answer is not asked of another.
 use Rattle.std.specs.Prelude.{Result, Ok, Err, IsErr, OnErr, is_err}
-use Rattle.std.proofs.Common.{◌≡◌, ◌∙◌, Bool, true, false, List, refl, sym, ap, true≢false}
-use Rattle.cps_literal.specs.declared.atom.Atom.{Atom}
-use Rattle.cps_trail.specs.declared.step.Step.{Step}
-use Rattle.cps_trail.specs.declared.step.Step.TheVariants.{Settled, Conflict}
+use Rattle.std.proofs.Common.{◌≡◌, ◌∙◌, Bool, true, false, refl, sym, ap, true≢false}
+use Rattle.cps_search.specs.declared.settle.Conflict.{Conflict as ConflictOf}
+use Rattle.cps_search.specs.declared.settle.Inference.{Inference}
+use Rattle.cps_search.specs.declared.settle.Inference.TheVariants.{Settled, Conflict}
 
 -- a failure is no success
 pub err_not_ok : {A E : Type 0} (P : Type 0) (r : Result A E) (e : E) (x : A) → r ≡ Err e → r ≡ Ok x → P
@@ -23,8 +23,8 @@ err_if (Ok y) P h = tt
 err_if (Err e) P h = h
 
 -- a conflict is no rest
-pub conflict_not_settled : {E : Type 0} (P : Type 0) (clause : List Atom) → ◌≡◌ {A = Result Step E} (Ok (Conflict clause)) (Ok Settled) → P
-conflict_not_settled P clause h = absurd (cc h)
+pub conflict_not_settled : {E : Type 0} (P : Type 0) (conflict : ConflictOf) → ◌≡◌ {A = Result Inference E} (Ok (Conflict conflict)) (Ok Settled) → P
+conflict_not_settled P conflict h = absurd (cc h)
 
 -- yes is not no
 pub yes_not_no : {E : Type 0} (P : Type 0) → ◌≡◌ {A = Result Bool E} (Ok true) (Ok false) → P

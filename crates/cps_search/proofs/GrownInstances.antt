@@ -1,8 +1,10 @@
 -- A search stays sound when its instance gains a sum.
-use Rattle.std.specs.Prelude.{map, ◌||◌, IfSome}
+use Rattle.std.specs.Prelude.{map, ◌||◌, IfSome, is_some}
+use Rattle.cps_search.specs.Logged.{IsLogAt}
+use Rattle.cps_search.proofs.Logs.{none_logged}
 use Rattle.std.specs.List.{All}
 use Rattle.cps_search.specs.declared.end.Phase.TheVariants.{Stepping}
-use Rattle.std.proofs.Common.{ℕ, ◌+◌, ◌<◌, ◌^◌, ℤ, ◌≡◌, ◌∙◌, ◌⊎◌, inl, inr, Bool, true, Option, Some, None, List, [], ◌∷◌, ◌++◌, length, take, get_or, refl, sym, ap, subst, arith, length-append}
+use Rattle.std.proofs.Common.{false, ℕ, ◌+◌, ◌<◌, ◌^◌, ℤ, ◌≡◌, ◌∙◌, ◌⊎◌, inl, inr, Bool, true, Option, Some, None, List, [], ◌∷◌, ◌++◌, length, take, get_or, refl, sym, ap, subst, arith, length-append}
 use Rattle.std.proofs.lemmas.List.{get_or_append_left, length-map}
 use Rattle.std.proofs.lemmas.List.Elements.{All-head, All-tail, All-weaker, All-contains, All-get_or}
 use Rattle.cps_model.specs.declared.bound.Bound.{Bound}
@@ -237,8 +239,8 @@ module _ (s : Search) (q : Problem) (sum : DefinedSum) (subject : ℕ) (d : Defi
     reached = subst (λ (m : CpModel). BoundLe s.z (At (objective_value m a))) (sym d.model) k.reached;
   }
 
-  sound_grown : IsSoundSearch (grown s q (sum_task subject sum))
-  sound_grown = record {
+  sound_grown : is_some s.log ≡ false → IsSoundSearch (grown s q (sum_task subject sum))
+  sound_grown unlogged = record {
     instance = j;
     first = first-bottom q.model.assumptions s.store q.domains sound bottom;
     incumbent = subst (λ (m : CpModel). IsIncumbent m s.z) (sym d.model) h.incumbent;
@@ -265,10 +267,11 @@ module _ (s : Search) (q : Problem) (sum : DefinedSum) (subject : ℕ) (d : Defi
     best = found_new s.best h.best;
     raised = subst (λ (m : CpModel). IfSome s.raised (IsLowerBound m)) (sym d.model) h.raised;
     phase = tt;
+    logged = none_logged (IsLogAt q s.z s.core s.base.journal Stepping) s.log unlogged;
   }
 
-pub sound_grew : (s t : Search) (sum : DefinedSum) (subject : ℕ) → GrewBy s t sum subject → IsInstance t.instance → IsSoundSearch s → IsSoundTrail s.store → s.store.level ≡ 0 → IsSoundSearch t
-sound_grew s t sum subject h j is sound bottom = subst IsSoundSearch (sym h.is) (sound_grown s t.instance sum subject h.defines j is sound bottom)
+pub sound_grew : (s t : Search) (sum : DefinedSum) (subject : ℕ) → is_some s.log ≡ false → GrewBy s t sum subject → IsInstance t.instance → IsSoundSearch s → IsSoundTrail s.store → s.store.level ≡ 0 → IsSoundSearch t
+sound_grew s t sum subject unlogged h j is sound bottom = subst IsSoundSearch (sym h.is) (sound_grown s t.instance sum subject h.defines j is sound bottom unlogged)
 
 -- the fields of a search after the sum was defined in its instance, its store and its tasks
 pub grown_is : (s : Search) (q : Problem) (sum : DefinedSum) (subject : ℕ) (domain : Intervals) (trail : Trail) (tasks : List Task) → Defines s.instance q sum subject → IsSoundSearch s → domain ≡ domain_at q.domains subject → trail ≡ record s.store { first = s.store.first ++ domain ∷ [] }

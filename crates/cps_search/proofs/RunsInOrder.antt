@@ -24,7 +24,8 @@ use Rattle.cps_search.specs.declared.turn.Turn.TheVariants as turns
 use Rattle.cps_search.specs.Enough.{enough, spare_values}
 use Rattle.cps_search.specs.Guided.{RunsBy}
 use Rattle.cps_search.specs.Lessons.{IsBackLevel}
-use Rattle.cps_search.specs.Moves.{fresh}
+use Rattle.cps_tracer.specs.Traced.{Traced}
+use Rattle.cps_search.specs.Moves.{fresh, with_log}
 use Rattle.cps_search.specs.Searches.{Search, IsSoundSearch}
 use Rattle.cps_search.specs.Shelves.{Shelf, in_force_on, with_more}
 use Rattle.cps_search.specs.Turns.{BackAsLearnt, IsOnward, LearntOne, SameLearnt, Teaches, TookOne, Uses}
@@ -216,21 +217,33 @@ spends_all rows s t b c p q (turns.Reformed base) clause below is h = absurd (cc
 top_below : (n : ℕ) → 2 * (2 ^ n - 1) < 2 ^ (n + 1)
 top_below n = omega (arith, pow_next n, pow_some n)
 
-module _ (p : Problem) (gap rows : ℕ) (budget : Option ℕ) (b : Branching) (on : IsInOrder b) where
-  few_before : (t : Search × Branching) (q r : Part) → TakesTurns ChoosesAs HearsAs StaysAs rows (fresh p gap budget, b) q t r → t.0.tally < enough p
-  few_before t q r turns =
-      let n = spare_values p.domains [] in
-      let room = (turns_room (2 * (2 ^ n - 1)) rows (fresh p gap budget, b) q t r turns on (room_begins p.domains [])).0 in
-      omega (arith, few_learnt _ _ _ _ _ _ room, top_below n)
+-- turns of a worker that began so
+few_begun : (p : Problem) (gap rows : ℕ) (budget : Option ℕ) (log : Option Traced) (b : Branching) → IsInOrder b → (t : Search × Branching) (q r : Part) → TakesTurns ChoosesAs HearsAs StaysAs rows (with_log log (fresh p gap budget), b) q t r → t.0.tally < enough p
+few_begun p gap rows budget None b on t q r turns =
+    let n = spare_values p.domains [] in
+    let room = (turns_room (2 * (2 ^ n - 1)) rows (fresh p gap budget, b) q t r turns on (room_begins p.domains [])).0 in
+    omega (arith, few_learnt _ _ _ _ _ _ room, top_below n)
+few_begun p gap rows budget (Some l) b on t q r turns =
+    let n = spare_values p.domains [] in
+    let room = (turns_room (2 * (2 ^ n - 1)) rows (with_log (Some l) (fresh p gap budget), b) q t r turns on (room_begins p.domains [])).0 in
+    omega (arith, few_learnt _ _ _ _ _ _ room, top_below n)
+
+begun_budget : (p : Problem) (gap : ℕ) (budget : Option ℕ) (log : Option Traced) → (with_log log (fresh p gap budget)).budget ≡ budget
+begun_budget p gap budget None = refl
+begun_budget p gap budget (Some l) = refl
+
+module _ (p : Problem) (gap rows : ℕ) (budget : Option ℕ) (log : Option Traced) (b : Branching) (on : IsInOrder b) where
+  few_before : (t : Search × Branching) (q r : Part) → TakesTurns ChoosesAs HearsAs StaysAs rows (with_log log (fresh p gap budget), b) q t r → t.0.tally < enough p
+  few_before t q r turns = few_begun p gap rows budget log b on t q r turns
 
   -- a worker in order learns from few conflicts, whatever its budget
-  pub few_conflicts : (t : Search × Branching) (q r : Part) (end : End) → RunsBy rows (fresh p gap budget, b) t q r end → t.0.tally < enough p
+  pub few_conflicts : (t : Search × Branching) (q r : Part) (end : End) → RunsBy rows (with_log log (fresh p gap budget), b) t q r end → t.0.tally < enough p
   few_conflicts t q r end h =
       omega (arith, few_before h.before q h.part h.turns, ends_tally rows h.before.0 t.0 h.before.1 t.1 h.part r h.turn end h.ended h.last)
 
   -- so it never spends one that is enough
-  pub never_spent : (t : Search × Branching) (q r : Part) (clause : List Atom) (below : Bound) (most : ℕ) → budget ≡ Some most → enough p ≤ most → RunsBy rows (fresh p gap budget, b) t q r (ends.Spent clause below) → ⊥
+  pub never_spent : (t : Search × Branching) (q r : Part) (clause : List Atom) (below : Bound) (most : ℕ) → budget ≡ Some most → enough p ≤ most → RunsBy rows (with_log log (fresh p gap budget), b) t q r (ends.Spent clause below) → ⊥
   never_spent t q r clause below most is within h =
-      let spent : Some most ≡ Some h.before.0.tally = sym is ∙ sym (turns_budget rows (fresh p gap budget, b) q h.before h.part h.turns) ∙ spends_all rows h.before.0 t.0 h.before.1 t.1 h.part r h.turn clause below h.ended h.last in
+      let spent : Some most ≡ Some h.before.0.tally = sym is ∙ sym (begun_budget p gap budget log) ∙ sym (turns_budget rows (with_log log (fresh p gap budget), b) q h.before h.part h.turns) ∙ spends_all rows h.before.0 t.0 h.before.1 t.1 h.part r h.turn clause below h.ended h.last in
       let same : most ≡ h.before.0.tally = cc spent in
       absurd (omega (arith, few_before h.before q h.part h.turns, same, within))

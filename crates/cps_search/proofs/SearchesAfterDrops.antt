@@ -1,4 +1,5 @@
 -- A search after it dropped learnt clauses, where that was due.
+use Rattle.cps_search.proofs.Logs.{learnt-dropped}
 use Rattle.std.proofs.Common.{ℕ, ◌+◌, ◌/◌, ◌%◌, ◌≤◌, ◌<◌, ◌≡◌, ◌≢◌, ◌⊎◌, Option, List, [], ◌∷◌, length, map, refl, sym, ◌∙◌, ap, subst, inl, inr, arith}
 use Rattle.std.specs.List.{All}
 use Rattle.std.proofs.lemmas.List.Elements.{All-append, All-cons}
@@ -79,6 +80,7 @@ left_half s due left h half =
       above = All-append (IsItemAbove s.z) s.base.journal (drops half.which) h.above (drops_above s.z half.which);
       counted = h.counted ∙ sym (learnt_count-drops s.base.journal half.which);
       count = long ∙ h.count;
+      same_learnt = learnt-dropped s.base.journal half.which;
     }
   where
     room : (n : ℕ) (ns : List ℕ) → (n / 2 + length ns ≤ n) ⊎ (ns ≡ []) → n / 2 + length ns ≤ n
@@ -98,6 +100,7 @@ left_of s left h forgets = elim (due_or s.base) [
     above = h.above;
     counted = h.counted;
     count = h.count;
+    same_learnt = refl;
   })
 ]
 

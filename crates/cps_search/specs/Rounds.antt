@@ -1,5 +1,5 @@
 -- How a neighbourhood worker that did its rounds ends.
-use Rattle.std.specs.Prelude.{◌≡◌}
+use Rattle.std.specs.Prelude.{◌≡◌, None}
 use Rattle.cps_port.specs.declared.part.Part.{Part}
 use Rattle.cps_search.specs.declared.end.End.TheVariants as ends
 use Rattle.cps_search.specs.declared.end.Phase.TheVariants.{Over}
@@ -10,11 +10,12 @@ use Rattle.cps_search.specs.Moves.{below}
 use Rattle.cps_search.specs.Searches.{Search}
 use Rattle.cps_search.specs.Turns.{SameSetting, SawMet, SawOpen}
 
--- The two bounds had not met, and the worker ends as its rounds are done. Nothing was taken from the board.
+-- The two bounds had not met, and the worker ends as its rounds are done. Nothing was taken from the board, and no log
+-- is kept.
 pub record RoundsOver (s t : Search) (p q : Part) : Type 0 where
   pub bounds : SawOpen s p.bounds q.bounds t.z
   pub board : q.board ≡ p.board
-  pub is : t ≡ record (below s t.z) { phase = Over ends.RoundsDone }
+  pub is : t ≡ record (below s t.z) { log = None; phase = Over ends.RoundsDone }
 
 -- the cause of the last turn of a worker that did its rounds
 abbrev pub EndsRoundsBy : Search → Search → Part → Part → Turn → Type 0
@@ -28,9 +29,9 @@ EndsRoundsBy s t p q (turns.Spent clause below) = ⊥
 EndsRoundsBy s t p q turns.RoundsDone = RoundsOver s t p q
 EndsRoundsBy s t p q (turns.Reformed base) = ⊥
 
--- what that turn does
+-- what that turn does; the log, if one was kept, is let go
 pub record EndsRounds (s t : Search) (p q : Part) (turn : Turn) : Type 0 where
-  pub setting : SameSetting s t
+  pub setting : SameSetting (record s { log = None }) t
   pub store : t.store ≡ s.store
   pub cause : EndsRoundsBy s t p q turn
   pub moves : MovesWith s t p q

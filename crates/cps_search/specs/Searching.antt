@@ -29,6 +29,7 @@ search_of {P} s = record {
   best = s.best;
   raised = s.raised;
   core = s.core;
+  log = s.log;
   rested = rest_in s;
   phase = s.phase;
   refused = false;

@@ -1,16 +1,18 @@
 //! What a search does after a conflict: it ends if no solution is left below z, or if the budget is spent, and else
 //! learns from the conflict, and shares what it learnt if that is short.
 
-ghost use Rattle.std.specs.Prelude.{◌≡◌, ◌↔◌, ◌<◌, ◌^◌, ℕ, length, OnOk, IfOk, IfSome, IsNone, IsTrue, Some, All, Ok};
+ghost use Rattle.std.specs.Prelude.{◌≡◌, ◌↔◌, ◌<◌, ◌≤◌, ◌^◌, ℕ, [], length, OnOk, IfOk, IfSome, IsNone, IsTrue, Some, is_some, All, Ok};
+ghost use Rattle.cps_trail.specs.Trail.{IsFalseNow};
 ghost use Rattle.cps_conflict.specs.Conflicts.{Asserts};
 ghost use Rattle.cps_clauses.specs.Quiet.{Fits};
 ghost use Rattle.cps_clauses.specs.Falls.{IsAtomValue};
 ghost use Rattle.cps_search.specs.Lessons.{GoesBack};
 ghost use Rattle.cps_search.specs.Shelves.{Learns, in_force_on};
-ghost use Rattle.cps_search.specs.Giving.{IsGivenConflict};
+ghost use Rattle.cps_search.specs.Giving.{IsConflictOfNamed, IsGivenConflict};
+ghost use Rattle.cps_search.specs.Logging.{HasLogged, IsClosedIfKept, IsGivenByNamed, LogsLearntIfKept};
 ghost use Rattle.cps_search.specs.Searches.{IsNewClause, IsSoundSearch, NoFreeBelow};
 ghost use Rattle.cps_search.specs.Exhausting.{IsConflictAtBottom};
-ghost use Rattle.cps_search.specs.Moves.{moved, with_phase, with_learnt};
+ghost use Rattle.cps_search.specs.Moves.{ended_by, moved, with_phase, with_learnt};
 ghost use Rattle.cps_search.specs.Keeps.{Keeps};
 ghost use Rattle.cps_search.specs.Turns.{IsShort, IsPutOnBoard};
 ghost use Rattle.cps_search.specs.Stepping.{IsAnalysed, IsCausedFrom};
@@ -19,7 +21,9 @@ use crate::end::{End, Phase};
 use crate::givers::Givers;
 use crate::import::share_short;
 use crate::learn::{analyse, learn_clause};
+use crate::log::{LogSource, close_on_conflict, is_closed, log_learnt};
 use crate::searcher::Searcher;
+use crate::settle::Conflict;
 use crate::turn::Turn;
 use cps_conflict::Learnt;
 use cps_literal::{Atom, Clause};
@@ -36,6 +40,7 @@ impl<'a, P: Propagator> Searcher<'a, P> {
         requires conflict { IsGivenConflict self.old.tasks (in_force_on self.old.base) self.old.store conflict.now }
         ensures is { OnOk result (self.new ≡ moved self.old self.new.store self.new.rested) }
         ensures back { OnOk result ((level : ℕ) × GoesBack self.old.store self.new.store level) }
+        ensures false_now { All (IsFalseNow self.new.store) conflict.now }
         ensures none { IfOk result (λ o. IsNone o → NoFreeBelow self.old.instance.model self.old.z) }
         ensures bottom { IfOk result (λ o. IsNone o → IsConflictAtBottom self.old) }
         ensures taught { IfOk result (λ o. IfSome o
@@ -74,14 +79,73 @@ impl<'a, P: Propagator> Searcher<'a, P> {
             (Phase.Over (End.Spent clause self.old.z))) }
         ensures sound { OnOk result (IsSoundSearch self.new) }
     {
+        if is_closed(&self.log) {
+            return Err(AllocError);
+        }
         let copy = Clause::from_slice(self.alloc, clause.as_slice())?;
         self.phase = Phase::Over(End::Spent(copy, self.z));
         Ok(Turn::Spent(clause, self.z))
     }
 
-    /// Shares a learnt clause if it is short, goes back as far as it says, drops clauses if that is due, and adds it.
-    fn learn_clause<Q: Port>(&mut self, port: &mut Q, learnt: Learnt) -> Result<(), AllocError>
+    /// Writes a learnt clause to the log, if one is kept, before it is added.
+    fn write_learnt(&mut self, conflict: &Conflict, learnt: &Learnt) -> Result<(), AllocError>
         requires sound { IsSoundSearch self.old }
+        requires subjects { All (λ t. t.subject < length self.old.store.first) conflict.now.clause }
+        requires false_now { All (IsFalseNow self.old.store) conflict.now.clause }
+        requires given { IsGivenByNamed self.old.tasks self.old.store.first conflict.now.task conflict.now.clause }
+        requires back { learnt.now.back_level ≤ self.old.store.level }
+        ensures is { OnOk result (self.new ≡ record self.old { log = self.new.log }) }
+        ensures logs { OnOk result (LogsLearntIfKept self.old.instance self.old.z learnt.now.clause self.old.log self.new.log) }
+    {
+        log_learnt(
+            &mut self.log,
+            &LogSource {
+                alloc: self.alloc,
+                instance: &self.instance,
+                store: &self.store,
+                givers: Givers {
+                    engine: &self.engine,
+                    clauses: &self.clauses,
+                },
+            },
+            &mut self.analyser,
+            conflict,
+            learnt,
+        )?;
+        Ok(())
+    }
+
+    /// Closes the log, if one is kept, on a conflict that is false at level 0. There is no core.
+    fn close_on_conflict(&mut self, conflict: &Conflict) -> Result<(), AllocError>
+        requires sound { IsSoundSearch self.old }
+        requires given { IsGivenByNamed self.old.tasks self.old.store.first conflict.now.task conflict.now.clause }
+        ensures is { OnOk result (self.new ≡ ended_by self.old [] self.new.log) }
+        ensures closed { OnOk result (IsClosedIfKept self.new.log) }
+        ensures logs { OnOk result (is_some self.new.log ≡ is_some self.old.log) }
+        ensures sound { OnOk result (IsSoundSearch self.new) }
+    {
+        self.phase = Phase::Stepping;
+        self.core = Refs::new(self.alloc);
+        close_on_conflict(
+            &mut self.log,
+            &LogSource {
+                alloc: self.alloc,
+                instance: &self.instance,
+                store: &self.store,
+                givers: Givers {
+                    engine: &self.engine,
+                    clauses: &self.clauses,
+                },
+            },
+            conflict,
+        )?;
+        Ok(())
+    }
+
+    /// Shares a learnt clause if it is short, goes back as far as it says, drops clauses if that is due, and adds it.
+    /// The log has it already.
+    fn learn_clause<Q: Port>(&mut self, port: &mut Q, learnt: Learnt) -> Result<(), AllocError>
+        requires sound { HasLogged self.old learnt.clause }
         requires model { Q.model port.old ≡ self.old.instance.model }
         requires few { length self.old.base.clauses < 2 ^ 32 }
         requires budget { IfSome self.old.budget (λ budget. self.old.tally < budget) }
@@ -96,7 +160,7 @@ impl<'a, P: Propagator> Searcher<'a, P> {
         ensures unshared { (IsShort self.old.instance.model learnt.clause → ⊥)
             → (Q.part port.new).board ≡ (Q.part port.old).board }
         ensures is { OnOk result (self.new
-            ≡ with_learnt (moved self.old self.new.store self.new.rested) self.new.base) }
+            ≡ with_learnt (moved self.old self.new.store self.new.rested) self.new.base self.old.log) }
         ensures learns { OnOk result (Learns self.old.base self.new.base self.new.store learnt.clause self.old.z) }
         ensures back { OnOk result (GoesBack self.old.store self.new.store learnt.back_level) }
         ensures sound { OnOk result (IsSoundSearch self.new) }
@@ -122,25 +186,28 @@ impl<'a, P: Propagator> Searcher<'a, P> {
     pub fn learn<Q: Port>(
         &mut self,
         port: &mut Q,
-        conflict: &[Atom],
+        conflict: &Conflict,
     ) -> Result<Option<Turn>, AllocError>
         requires sound { IsSoundSearch self.old }
         requires model { Q.model port.old ≡ self.old.instance.model }
         requires few { length self.old.base.clauses < 2 ^ 32 }
-        requires conflict { IsGivenConflict self.old.tasks (in_force_on self.old.base) self.old.store conflict.now }
+        requires conflict { IsGivenConflict self.old.tasks (in_force_on self.old.base) self.old.store
+            conflict.now.clause }
+        requires named { IsConflictOfNamed self.old.tasks self.old.store conflict.now.task conflict.now.clause }
         ensures keeps { Keeps Q.model Q.rows Q.stays port.old port.new }
         ensures cause { IfOk result (λ turn. IsCausedFrom self.old self.new (Q.rows port.old) (Q.part port.old)
             (Q.part port.new) turn) }
         ensures sound { OnOk result (IsSoundSearch self.new) }
     {
-        let Some(learnt) = self.analyse(conflict)? else {
-            let core = Refs::new(self.alloc);
-            self.exhaust(port, core);
+        let Some(learnt) = self.analyse(conflict.clause.as_slice())? else {
+            self.close_on_conflict(conflict)?;
+            self.exhaust(port);
             return Ok(Some(Turn::Exhausted));
         };
         if self.is_spent() {
             return Ok(Some(self.spend(learnt.clause)?));
         }
+        self.write_learnt(conflict, &learnt)?;
         self.learn_clause(port, learnt)?;
         Ok(Some(Turn::Learnt))
     }

@@ -6,20 +6,23 @@
 //! is satisfied. Assumptions are looked at first: where one is false no solution is left below z, whatever is still
 //! open, and values that make one false are no solution of the model.
 
-ghost use Rattle.std.specs.Prelude.{◌≡◌, OnOk, IfOk, IfSome, IsNone, Some, Ok};
+ghost use Rattle.std.specs.Prelude.{◌≡◌, OnOk, IfOk, IfSome, IsNone, Some, is_some, Ok};
 ghost use Rattle.cps_model.specs.Solutions.{objective_value, IsSolution};
 ghost use Rattle.cps_trail.specs.Trail.{IsSoundTrail};
 ghost use Rattle.cps_port.specs.Order.{IsBelow};
 ghost use Rattle.cps_search.specs.Assumptions.{IsCoreBelow, IsAssumedNext, IsFailedAssumption, NoneFails, NoneIsOpen};
 ghost use Rattle.cps_search.specs.Searches.{IsSettled, IsSoundSearch, NoneBelow};
 ghost use Rattle.cps_search.specs.Exhausting.{IsCoreOf};
-ghost use Rattle.cps_search.specs.Moves.{below};
+ghost use Rattle.cps_search.specs.Logging.{IsClosedIfKept};
+ghost use Rattle.cps_search.specs.Moves.{below, ended_by};
 ghost use Rattle.cps_search.specs.Keeps.{Keeps};
 ghost use Rattle.cps_search.specs.Stepping.{IsCausedFrom, Offers};
 
 use crate::assumptions::{atom_of, core_by_decisions, first_failed, first_open};
 use crate::end::Phase;
 use crate::found::{Found, read_solution};
+use crate::givers::Givers;
+use crate::log::{LogSource, close_on_assumption};
 use crate::searcher::Searcher;
 use crate::turn::Turn;
 use cps_literal::Atom;
@@ -27,6 +30,16 @@ use cps_model::{Bound, Ints, Refs};
 use cps_port::Port;
 use cps_propagate::Propagator;
 use std::alloc::AllocError;
+
+/// The assumptions that a log may take where the search is below z: those of the core where no incumbent is known.
+fn may_assume<'s>(z: Bound, assumptions: &'s [i32], core: &'s [i32]) -> &'s [i32]
+    ensures { z ≡ Bound.Infinite → result.now ≡ core.now }
+{
+    match z {
+        Bound::At(_) => assumptions,
+        Bound::Infinite => core,
+    }
+}
 
 impl<'a, P: Propagator> Searcher<'a, P> {
     /// The first assumption that is undecided.
@@ -75,6 +88,37 @@ impl<'a, P: Propagator> Searcher<'a, P> {
         }
     }
 
+    /// Closes the log, if one is kept, where an assumption is false, and keeps the core.
+    fn close_on_assumption(&mut self, failed: usize, core: Refs) -> Result<(), AllocError>
+        requires sound { IsSoundSearch self.old }
+        requires failed { IsFailedAssumption self.old.instance.model.assumptions self.old.store failed }
+        ensures is { OnOk result (self.new ≡ ended_by self.old core self.new.log) }
+        ensures closed { OnOk result (IsClosedIfKept self.new.log) }
+        ensures logs { OnOk result (is_some self.new.log ≡ is_some self.old.log) }
+        ensures sound { OnOk result (IsSoundSearch self.new) }
+    {
+        self.phase = Phase::Stepping;
+        self.core = core;
+        let assumptions = self.instance.assumptions();
+        let assumed = may_assume(self.z, assumptions, self.core.as_slice());
+        close_on_assumption(
+            &mut self.log,
+            &LogSource {
+                alloc: self.alloc,
+                instance: &self.instance,
+                store: &self.store,
+                givers: Givers {
+                    engine: &self.engine,
+                    clauses: &self.clauses,
+                },
+            },
+            &mut self.analyser,
+            atom_of(assumptions[failed]),
+            assumed,
+        )?;
+        Ok(())
+    }
+
     /// Ends where an assumption is false.
     fn fail<Q: Port>(&mut self, port: &mut Q, failed: usize) -> Result<Option<Turn>, AllocError>
         requires sound { IsSoundSearch self.old }
@@ -87,7 +131,8 @@ impl<'a, P: Propagator> Searcher<'a, P> {
         ensures sound { OnOk result (IsSoundSearch self.new) }
     {
         let core = self.core_of(failed)?;
-        self.exhaust(port, core);
+        self.close_on_assumption(failed, core)?;
+        self.exhaust(port);
         Ok(Some(Turn::Exhausted))
     }
 

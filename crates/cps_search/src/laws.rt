@@ -23,7 +23,8 @@ ghost use Rattle.cps_search.specs.Forgetting.{DropsNothing};
 ghost use Rattle.cps_search.specs.Giving.{ByAll};
 ghost use Rattle.cps_search.specs.Guided.{RunsBy};
 ghost use Rattle.cps_search.specs.Lessons.{GoesBack};
-ghost use Rattle.cps_search.specs.Moves.{decided, fresh};
+ghost use Rattle.cps_tracer.specs.Traced.{Traced};
+ghost use Rattle.cps_search.specs.Moves.{decided, fresh, with_log};
 ghost use Rattle.cps_search.specs.Searches.{Search, IsHonestJournal, IsSoundSearch, learnt_count};
 ghost use Rattle.cps_search.specs.Ends.{IsComplete, IsHonestEnding, RunsInTurns, RunsTo, ending};
 
@@ -74,9 +75,9 @@ pub fn nothing_is_dropped_early()
 
 /// A worker of a complete kind that has ended is honest, if its actor had offered and raised nothing before it began.
 pub fn ended_workers_are_honest()
-    ensures { (p : Problem) (gap budget : ℕ) (t : Search) (before after : Part) (kind : WorkerKind)
-        (guidance : Option Guidance) (end : End) → IsComplete kind
-        → RunsTo (fresh p gap (Some budget)) t before after end
+    ensures { (p : Problem) (gap budget : ℕ) (log : Option Traced) (t : Search) (before after : Part)
+        (kind : WorkerKind) (guidance : Option Guidance) (end : End) → IsComplete kind
+        → RunsTo (with_log log (fresh p gap (Some budget))) t before after end
         → IsSoundSearch t → before.bounds.offered ≡ Infinite → before.bounds.raised ≡ None
         → IsHonestEnding p.model gap budget after.bounds (ending kind guidance end t) }
 {}
@@ -99,10 +100,12 @@ pub fn the_model_says_how_many_are_enough()
 /// A worker in order learns from few conflicts, whatever its budget, and whatever other actors share and raise. So it
 /// never spends a budget that is enough for its instance.
 pub fn workers_in_order_decide()
-    ensures few { (p : Problem) (gap rows : ℕ) (budget : Option ℕ) (plan : Planned) (t : Search × Branching)
-        (before after : Part) (end : End) → RunsBy rows (fresh p gap budget, in_order plan) t before after end
+    ensures few { (p : Problem) (gap rows : ℕ) (budget : Option ℕ) (log : Option Traced) (plan : Planned)
+        (t : Search × Branching) (before after : Part) (end : End)
+        → RunsBy rows (with_log log (fresh p gap budget), in_order plan) t before after end
         → t.0.tally < enough p }
-    ensures unspent { (p : Problem) (gap rows budget : ℕ) (plan : Planned) (t : Search × Branching)
-        (before after : Part) (clause : List Atom) (below : Bound) → enough p ≤ budget
-        → RunsBy rows (fresh p gap (Some budget), in_order plan) t before after (Spent clause below) → ⊥ }
+    ensures unspent { (p : Problem) (gap rows budget : ℕ) (log : Option Traced) (plan : Planned)
+        (t : Search × Branching) (before after : Part) (clause : List Atom) (below : Bound) → enough p ≤ budget
+        → RunsBy rows (with_log log (fresh p gap (Some budget)), in_order plan) t before after (Spent clause below)
+        → ⊥ }
 {}

@@ -5,9 +5,10 @@
 //! back stay in the list. The clause of an own row is in force already: added once more, it would be stored and watched
 //! twice.
 
-ghost use Rattle.std.specs.Prelude.{◌≤◌, IsTrue};
-ghost use Rattle.cps_port.specs.Entries.{entry_clause, most_atoms};
-ghost use Rattle.cps_search.specs.Shelves.{shelf_of, StandsIn};
+ghost use Rattle.std.specs.Prelude.{◌≡◌, ◌≤◌, ◌↔◌, IsTrue, OnOk};
+ghost use Rattle.cps_port.specs.Entries.{most_atoms};
+ghost use Rattle.cps_search.specs.Shelves.{shelf_of};
+ghost use Rattle.cps_search.specs.OwnRows.{with_own, IsOwn, StandsAt};
 
 use cps_clauses::ClauseBase;
 use cps_literal::Atom;
@@ -38,17 +39,22 @@ impl OwnRows {
     }
 
     /// Notes the row in which the clause of this number stands, if one was left for it.
-    pub fn add(&mut self, row: Option<u32>, clause: u32) -> Result<(), AllocError> {
+    pub fn add(&mut self, row: Option<u32>, clause: u32) -> Result<(), AllocError>
+        ensures rows { OnOk result (self.new.rows.items ≡ with_own self.old.rows.items row clause) }
+        ensures taken { OnOk result (self.new.taken ≡ self.old.taken) }
+    {
         if let Some(row) = row {
             self.rows.push(OwnRow { row, clause })?;
         }
         Ok(())
     }
 
-    /// Whether an entry is the next own row, and its clause stands in the base. That row is then taken.
+    /// Whether an entry is of the next own row, and the clause that was shared there still stands in the base. The row
+    /// is taken where the entry is of it.
     pub fn take_back(&mut self, base: &ClauseBase, entry: &Entry) -> bool
         requires few { entry.now.len ≤ most_atoms }
-        ensures { IsTrue result → StandsIn (shelf_of base.now) (entry_clause entry.now) }
+        ensures own { IsTrue result ↔ IsOwn self.old.rows.items self.old.taken (shelf_of base.now) entry.now }
+        ensures rows { self.new.rows.items ≡ self.old.rows.items }
     {
         let Some(own) = self.rows.get(self.taken).copied() else {
             return false;
@@ -59,11 +65,20 @@ impl OwnRows {
         self.taken += 1;
         stands_at(base, own.clause, entry.clause())
     }
+
+    /// The number of the clause with which the row that was taken last was filled, if it is this row.
+    pub fn clause_of(&self, row: u32) -> Option<u32> {
+        let own = self.rows.get(self.taken.checked_sub(1)?)?;
+        if own.row != row {
+            return None;
+        }
+        Some(own.clause)
+    }
 }
 
 /// Whether the clause of this number is in force and has just these atoms.
-fn stands_at(base: &ClauseBase, number: u32, atoms: &[Atom]) -> bool
-    ensures { IsTrue result → StandsIn (shelf_of base.now) atoms.now }
+pub(crate) fn stands_at(base: &ClauseBase, number: u32, atoms: &[Atom]) -> bool
+    ensures { IsTrue result ↔ StandsAt (shelf_of base.now) number atoms.now }
 {
     base.in_force(number) && base.is_clause(number, atoms)
 }

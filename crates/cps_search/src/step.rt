@@ -6,7 +6,7 @@
 //! functions over the parts (`look`, `import`, `settle_all`, `analyse`, `learn_clause`, `read_solution`), which know
 //! nothing of the search.
 
-ghost use Rattle.std.specs.Prelude.{◌≡◌, ◌<◌, ◌^◌, length, true, false, OnOk, IfOk, IfSome, IsNone, Some, Ok};
+ghost use Rattle.std.specs.Prelude.{◌≡◌, ◌<◌, ◌^◌, length, true, false, OnOk, IfOk, IfSome, IsNone, Some, is_some, Ok};
 ghost use Rattle.cps_port.specs.Entries.{IsSoundEntry};
 ghost use Rattle.cps_search.specs.Searches.{IsSoundSearch};
 ghost use Rattle.cps_search.specs.Moves.{below, moved};
@@ -17,14 +17,14 @@ ghost use Rattle.cps_search.specs.Stepping.{TakesOne, UsesEntry};
 
 use crate::end::{End, Phase};
 use crate::import::{News, import, take};
+use crate::log::{close_at_start, log_import};
 use crate::look::{is_at_most, look};
 use crate::searcher::Searcher;
-use crate::settle::settle_all;
+use crate::settle::{Inference, settle_all};
 use crate::turn::Turn;
 use cps_model::Bound;
 use cps_port::Port;
 use cps_propagate::Propagator;
-use cps_trail::Step;
 use std::alloc::AllocError;
 
 impl<'a, P: Propagator> Searcher<'a, P> {
@@ -67,7 +67,7 @@ impl<'a, P: Propagator> Searcher<'a, P> {
     }
 
     /// Adds the clause of an entry that was taken, if it holds below z. A clause that this worker shared itself, and
-    /// that is still in force, is passed over.
+    /// that is still in force, is passed over. Out of memory too where a log is kept and has no such clause.
     fn use_news(&mut self, news: &News) -> Result<(), AllocError>
         requires sound { IsSoundSearch self.old }
         requires z { news.now.z ≡ self.old.z }
@@ -94,8 +94,24 @@ impl<'a, P: Propagator> Searcher<'a, P> {
             &mut self.rested,
             &news.entry,
         )?;
+        let own = self.own_rows.clause_of(news.entry.row);
+        log_import(&mut self.log, own, self.store.entries().len())?;
         self.imported += 1;
         Ok(())
+    }
+
+    /// Ends where the two bounds had met. A log that is kept is closed by what the objective is worth at least; out of
+    /// memory too where that is less than z.
+    fn end_closed(&mut self) -> Result<Turn, AllocError>
+        requires sound { IsSoundSearch self.old }
+        ensures turn { IfOk result (λ turn. turn ≡ Turn.SawClosed) }
+        ensures is { OnOk result (self.new ≡ record self.old { log = self.new.log; phase = Phase.Over End.SawClosed }) }
+        ensures logs { OnOk result (is_some self.new.log ≡ is_some self.old.log) }
+        ensures sound { OnOk result (IsSoundSearch self.new) }
+    {
+        close_at_start(&mut self.log, &self.instance, self.z)?;
+        self.phase = Phase::Over(End::SawClosed);
+        Ok(Turn::SawClosed)
     }
 
     /// The steps of a turn up to a decision. `None` if a decision is due.
@@ -109,8 +125,7 @@ impl<'a, P: Propagator> Searcher<'a, P> {
         ensures sound { OnOk result (IsSoundSearch self.new) }
     {
         if self.see_bounds(port).is_none() {
-            self.phase = Phase::Over(End::SawClosed);
-            return Ok(Some(Turn::SawClosed));
+            return Ok(Some(self.end_closed()?));
         }
         if self.take_one(port)? {
             return Ok(Some(Turn::Imported));
@@ -122,12 +137,13 @@ impl<'a, P: Propagator> Searcher<'a, P> {
             &mut self.store,
             &mut self.rested,
         )? {
-            Step::Conflict(clause) => self.learn(port, clause.as_slice()),
-            Step::Settled => self.after_fixpoint(port),
+            Inference::Conflict(conflict) => self.learn(port, &conflict),
+            Inference::Settled => self.after_fixpoint(port),
         }
     }
 
-    /// Looks at the two bounds and ends: with `SawClosed` if they had met, else with `RoundsDone`.
+    /// Looks at the two bounds and ends: with `SawClosed` if they had met, else with `RoundsDone`. A log that was kept is
+    /// let go.
     pub fn end_rounds<Q: Port>(&mut self, port: &mut Q) -> Turn
         requires sound { IsSoundSearch self.old }
         requires model { Q.model port.old ≡ self.old.instance.model }
@@ -135,7 +151,9 @@ impl<'a, P: Propagator> Searcher<'a, P> {
         ensures ends { EndsRounds self.old self.new (Q.part port.old) (Q.part port.new) result }
         ensures sound { IsSoundSearch self.new }
     {
-        if self.see_bounds(port).is_none() {
+        let seen = self.see_bounds(port);
+        self.log = None;
+        if seen.is_none() {
             self.phase = Phase::Over(End::SawClosed);
             return Turn::SawClosed;
         }

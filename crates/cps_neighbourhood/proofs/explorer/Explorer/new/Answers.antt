@@ -41,6 +41,7 @@ returns-clause-exploring g c = record {
   conflicts = search rules;
   imported = search rules;
   within = search rules;
+  no_log = search rules;
   agreed = search rules;
   variables = search rules;
   few_variables = search rules;

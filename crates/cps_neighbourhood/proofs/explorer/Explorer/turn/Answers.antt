@@ -96,7 +96,7 @@ hear-requires-clause-learnt g c =
 pub returns-then-self-round_count-clause-turn : goal.returns-then-self-round_count-clause-turn
 returns-then-self-round_count-clause-turn g c =
     let x = c.args.self.now in
-    turn_done (near_of x) c.end_rounds.new.self _ _ _ c.end_rounds.result (c.if-self-round_count.true ∙ c.round_count.ensures) c.end_rounds.ensures.ends
+    turn_done (near_of x) c.end_rounds.new.self _ _ _ c.end_rounds.result c.requires.exploring.no_log (c.if-self-round_count.true ∙ c.round_count.ensures) c.end_rounds.ensures.ends
 
 pub returns-then-self-round_count-clause-exploring : goal.returns-then-self-round_count-clause-exploring
 returns-then-self-round_count-clause-exploring g c =

@@ -1,5 +1,5 @@
 -- The sum is defined as the next subject in the instance, the store and the tasks alike.
-use Rattle.std.specs.Prelude.{None}
+use Rattle.std.specs.Prelude.{None, is_some}
 use Rattle.std.specs.List.{All}
 use mir.Facts.{to_z-of_z}
 use Rattle.std.proofs.Common.{◌≡◌, ◌∙◌, ◌+◌, ◌<◌, ◌^◌, ℤ, [], ◌∷◌, ◌++◌, length, length-append, unsigned_abs, sym, subst, ap, arith}
@@ -55,7 +55,7 @@ returns-clause-grew g c =
 
 pub returns-clause-sound : goal.returns-clause-sound
 returns-clause-sound g c =
-    sound_grew c.args.self.now _ (record { terms = c.args.terms.now; offset = c.args.offset }) c.in_ok-subject.subject (returns-clause-grew g c) c.define.ensures.sound c.requires.sound
+    sound_grew c.args.self.now _ (record { terms = c.args.terms.now; offset = c.args.offset }) c.in_ok-subject.subject (ap (λ (x : Search). is_some x.log) (sym c.self.view_is) ∙ sym c.is_some.ensures ∙ c.if-is_some.false) (returns-clause-grew g c) c.define.ensures.sound c.requires.sound
     (subst (λ (x : Search). IsSoundTrail x.store) c.self.view_is c.entries.ensures.sound) c.requires.bottom
 
 pub define-requires-clause-small : goal.define-requires-clause-small

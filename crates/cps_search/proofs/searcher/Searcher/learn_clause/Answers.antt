@@ -9,8 +9,10 @@ use Rattle.cps_conflict.specs.Conflicts.{Asserts}
 use Rattle.cps_instance.specs.Problem.{variable_count}
 use Rattle.cps_port.specs.declared.part.BoardPart.{BoardPart}
 use Rattle.cps_port.specs.Incumbents.{IsIncumbent}
-use Rattle.cps_search.specs.Searches.{Search, IsNewClause, IsSoundSearch}
+use Rattle.cps_search.specs.Searches.{Search, IsNewClause}
 use Rattle.cps_search.specs.Lessons.{GoesBack}
+use Rattle.cps_search.specs.declared.end.Phase.TheVariants.{Stepping}
+use Rattle.cps_search.specs.Logging.{HasLogged}
 use Rattle.cps_search.specs.Moves.{moved, with_learnt}
 use Rattle.cps_search.specs.Resting.{Rest, recalled}
 use Rattle.cps_search.specs.Shelves.{Learns, in_force_on, shelf_of}
@@ -39,20 +41,20 @@ share_short-row-requires-clause-holds g c = λ short.
 pub returns-clause-sound : goal.returns-clause-sound
 returns-clause-sound g c =
     let s = search_of c.self.inside in
-    let sound : IsSoundSearch s = subst (λ (x : Search). IsSoundSearch x) (sym c.self.view_is) c.requires.sound in
+    let logged : HasLogged s c.args.learnt.clause = subst (λ (x : Search). HasLogged x c.args.learnt.clause) (sym c.self.view_is) c.requires.sound in
     let new : IsNewClause s.instance (in_force_on s.base) c.args.learnt.clause s.z = subst (λ (x : Search). IsNewClause x.instance (in_force_on x.base) c.args.learnt.clause x.z) (sym c.self.view_is) c.requires.new in
     let fits : Fits s.store.first c.args.learnt.clause = subst (λ (x : Search). Fits x.store.first c.args.learnt.clause) (sym c.self.view_is) c.requires.fits in
     let left : IfSome s.budget (λ budget. s.tally < budget) = subst (λ (x : Search). IfSome x.budget (λ budget. x.tally < budget)) (sym c.self.view_is) c.requires.budget in
     let n = c.learn_clause.new in
     let k = c.in_ok-learn_clause.ensures in
-    sound_kept s n.store c.self.inside.engine.recall n.rested.tasks n.rested.clauses c.args.learnt.back_level n.base c.args.learnt.clause refl sound k.back k.rested k.still_rested new fits k.learns k.quiet left
+    sound_kept (record s { log = logged.before; phase = Stepping }) n.store c.self.inside.engine.recall n.rested.tasks n.rested.clauses c.args.learnt.back_level n.base c.args.learnt.clause s.log logged.logs refl logged.sound k.back k.rested k.still_rested new fits k.learns k.quiet left
 
 pub returns-clause-is : goal.returns-clause-is
 returns-clause-is g c =
     let s = search_of c.self.inside in
     let n = c.learn_clause.new in
     let rest : Rest = record { tasks = n.rested.tasks; recall = recalled n.rested.tasks c.self.inside.engine.recall; clauses = n.rested.clauses; watched = n.base.watched } in
-    subst (λ (x : Search). with_learnt (moved s n.store rest) (shelf_of n.base) ≡ with_learnt (moved x n.store rest) (shelf_of n.base)) c.self.view_is refl
+    subst (λ (x : Search). with_learnt (moved s n.store rest) (shelf_of n.base) s.log ≡ with_learnt (moved x n.store rest) (shelf_of n.base) x.log) c.self.view_is refl
 
 pub returns-clause-learns : goal.returns-clause-learns
 returns-clause-learns g c =
@@ -74,7 +76,7 @@ share_short-row-requires-clause-values g c = subst (λ (ts : List Atom). All (λ
 pub share_short-row-requires-clause-incumbent : goal.share_short-row-requires-clause-incumbent
 share_short-row-requires-clause-incumbent g c =
     subst (λ (x : Search). IsIncumbent (g.Q.Port.model c.args.port.now) x.z) (sym c.self.view_is)
-    (subst (λ (m : CpModel). IsIncumbent m c.args.self.now.z) (sym c.requires.model) c.requires.sound.incumbent)
+    (subst (λ (m : CpModel). IsIncumbent m c.args.self.now.z) (sym c.requires.model) c.requires.sound.sound.incumbent)
 
 pub learn_clause-requires-clause-normal : goal.learn_clause-requires-clause-normal
 learn_clause-requires-clause-normal g c = c.requires.new.worthy.normal
@@ -83,7 +85,7 @@ pub learn_clause-requires-clause-asserts : goal.learn_clause-requires-clause-ass
 learn_clause-requires-clause-asserts g c = subst (λ (x : Search). Asserts x.store c.args.learnt.clause c.args.learnt.assert c.args.learnt.back_level) (sym c.self.view_is) c.requires.asserts
 
 pub learn_clause-requires-clause-quiet : goal.learn_clause-requires-clause-quiet
-learn_clause-requires-clause-quiet g c = (subst (λ (x : Search). IsSoundSearch x) (sym c.self.view_is) c.requires.sound).quiet
+learn_clause-requires-clause-quiet g c = (subst (λ (x : Search). HasLogged x c.args.learnt.clause) (sym c.self.view_is) c.requires.sound).sound.quiet
 
 pub learn_clause-requires-clause-count : goal.learn_clause-requires-clause-count
 learn_clause-requires-clause-count g c = subst (λ (x : Search). length x.base.clauses < 2 ^ 32) (sym c.self.view_is) c.requires.few

@@ -26,4 +26,4 @@ returns-clause-sound g c =
     let copied : c.in_ok-copy.copy ≡ c.args.clause = c.in_ok-copy.ensures.ok ∙ c.as_slice.ensures in
     let sound : IsSoundSearch s = subst (λ (x : Search). IsSoundSearch x) (sym c.self.view_is) c.requires.sound in
     let new : IsNewClause s.instance (in_force_on s.base) c.args.clause s.z = subst (λ (x : Search). IsNewClause x.instance (in_force_on x.base) c.args.clause x.z) (sym c.self.view_is) c.requires.new in
-    subst (λ (ts : List Atom). IsSoundSearch (with_phase s s.raised (Over (ends.Spent ts s.z)))) (sym copied) (sound_spent s c.args.clause sound new)
+    subst (λ (ts : List Atom). IsSoundSearch (with_phase s s.raised (Over (ends.Spent ts s.z)))) (sym copied) (sound_spent s c.args.clause sound new (c.is_closed.ensures c.if-is_closed.false))
