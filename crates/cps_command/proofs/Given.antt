@@ -63,14 +63,20 @@ no_switch_given f id none = (
 
 -- numbers out of their ranges are no options
 pub out_of_range : (rows : List Row) (o : Options) → HasNumber (codes "workers") rows o.workers → HasNumber (codes "conflicts") rows o.conflicts
-    → HasNumber (codes "gap") rows o.gap → (AreInRange o → ⊥)
+    → HasNumber (codes "gap") rows o.gap → IsTrue o.log ↔ IsOn (codes "log") rows → (AreInRange o → ⊥)
     → (p : Options) → AreOptions rows p → ⊥
-out_of_range rows o ow oc og out p a =
+out_of_range rows o ow oc og ol out p a =
     let workers = same_number (codes "workers") rows o.workers p.workers ow a.workers in
     let conflicts = same_number (codes "conflicts") rows o.conflicts p.conflicts oc a.conflicts in
     let gap = same_number (codes "gap") rows o.gap p.gap og a.gap in
     let range = a.range in
-    out (record { some_worker = omega arith; workers = omega arith; conflicts = omega arith; gap = omega arith })
+    out (record {
+      some_worker = omega arith;
+      workers = omega arith;
+      conflicts = omega arith;
+      gap = omega arith;
+      log = λ on. let alone = range.log (a.log.1 (ol.0 on)) in record { workers = workers ∙ alone.workers; gap = gap ∙ alone.gap };
+    })
 
 -- what a getter reads of an option is the option's number, and nothing only where it has none that there is room for
 pub number_given : {E : Type 0} (k : ℕ) (f : Found) (id : List ℕ) (r : Option ℕ) (gives : List ℕ → Result ℕ E → Type 0)
@@ -128,14 +134,15 @@ said_name says Check h = h
 no_other : (says : Option (Text × List Row)) (name : List ℕ) (c : Command) → HasName name says → (slice_index name 0 ≡ slice_index (name_of c) 0 → ⊥) → Says says c → ⊥
 no_other says name c h apart k = other_name says name (name_of c) apart h (said_name says c k)
 
-abbrev make : ℕ → ℕ → ℕ → Bool → ℕ → Options
-make workers conflicts seed interleave gap = record { workers = workers; conflicts = conflicts; seed = seed; interleave = interleave; gap = gap }
+abbrev make : ℕ → ℕ → ℕ → Bool → ℕ → Bool → Options
+make workers conflicts seed interleave gap log =
+    record { workers = workers; conflicts = conflicts; seed = seed; interleave = interleave; gap = gap; log = log }
 
-alike_options : (o p : Options) → o.workers ≡ p.workers → o.conflicts ≡ p.conflicts → o.seed ≡ p.seed → o.interleave ≡ p.interleave → o.gap ≡ p.gap → o ≡ p
-alike_options o p workers conflicts seed interleave gap =
-    ap (λ (n : ℕ). make n o.conflicts o.seed o.interleave o.gap) workers ∙ ap (λ (n : ℕ). make p.workers n o.seed o.interleave o.gap) conflicts
-    ∙ ap (λ (n : ℕ). make p.workers p.conflicts n o.interleave o.gap) seed ∙ ap (λ (b : Bool). make p.workers p.conflicts p.seed b o.gap) interleave
-    ∙ ap (λ (n : ℕ). make p.workers p.conflicts p.seed p.interleave n) gap
+alike_options : (o p : Options) → o.workers ≡ p.workers → o.conflicts ≡ p.conflicts → o.seed ≡ p.seed → o.interleave ≡ p.interleave → o.gap ≡ p.gap → o.log ≡ p.log → o ≡ p
+alike_options o p workers conflicts seed interleave gap log =
+    ap (λ (n : ℕ). make n o.conflicts o.seed o.interleave o.gap o.log) workers ∙ ap (λ (n : ℕ). make p.workers n o.seed o.interleave o.gap o.log) conflicts
+    ∙ ap (λ (n : ℕ). make p.workers p.conflicts n o.interleave o.gap o.log) seed ∙ ap (λ (b : Bool). make p.workers p.conflicts p.seed b o.gap o.log) interleave
+    ∙ ap (λ (n : ℕ). make p.workers p.conflicts p.seed p.interleave n o.log) gap ∙ ap (λ (b : Bool). make p.workers p.conflicts p.seed p.interleave p.gap b) log
 
 -- words have one list of options
 same_options : (says : Option (Text × List Row)) (o p : Options) → HasOptions says o → HasOptions says p → o ≡ p
@@ -148,7 +155,8 @@ same_options says o p h k =
     let seed = same_number (codes "seed") h.rows o.seed p.seed h.options.seed other.seed in
     let interleave = same_switch (IsOn (codes "interleave") h.rows) o.interleave p.interleave h.options.interleave other.interleave in
     let gap = same_number (codes "gap") h.rows o.gap p.gap h.options.gap other.gap in
-    alike_options o p workers conflicts seed interleave gap
+    let log = same_switch (IsOn (codes "log") h.rows) o.log p.log h.options.log other.log in
+    alike_options o p workers conflicts seed interleave gap log
 
 -- two families have two names
 same_family : (f g : Family) → family_name f ≡ family_name g → f ≡ g

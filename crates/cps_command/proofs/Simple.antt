@@ -5,14 +5,14 @@ use Rattle.clap.specs.Words.{AddsArg, is_simple, is_simple_and_free}
 use Rattle.clap.specs.declared.builder.Arg.{Arg}
 use Rattle.clap.specs.declared.builder.Command.{Command}
 use Rattle.clap.specs.declared.builder.Command.TheViews.{out-Command}
-use Rattle.cps_command.specs.Rules.{workers_rule, conflicts_rule, seed_rule, interleave_rule, gap_rule, family_rule, size_rule, drawing_rule, solve_line, validate_line, print_line, check_line, generating_line, with_reading_lines, with_generating_lines, command_table}
+use Rattle.cps_command.specs.Rules.{workers_rule, conflicts_rule, seed_rule, interleave_rule, gap_rule, log_rule, family_rule, size_rule, drawing_rule, solve_line, validate_line, print_line, check_line, generating_line, with_reading_lines, with_generating_lines, command_table}
 
 pub table_is_free : is_simple_and_free command_table ≡ true
-unfolding command_table with_reading_lines with_generating_lines solve_line validate_line print_line check_line generating_line workers_rule conflicts_rule seed_rule interleave_rule gap_rule family_rule size_rule drawing_rule
+unfolding command_table with_reading_lines with_generating_lines solve_line validate_line print_line check_line generating_line workers_rule conflicts_rule seed_rule interleave_rule gap_rule log_rule family_rule size_rule drawing_rule
 table_is_free = refl
 
 pub table_is_simple : is_simple command_table ≡ true
-unfolding command_table with_reading_lines with_generating_lines solve_line validate_line print_line check_line generating_line workers_rule conflicts_rule seed_rule interleave_rule gap_rule family_rule size_rule drawing_rule
+unfolding command_table with_reading_lines with_generating_lines solve_line validate_line print_line check_line generating_line workers_rule conflicts_rule seed_rule interleave_rule gap_rule log_rule family_rule size_rule drawing_rule
 table_is_simple = refl
 
 -- a command with one more option of its own has none that its subcommands have too

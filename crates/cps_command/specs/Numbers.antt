@@ -23,7 +23,8 @@ pub record HasNumber (option : List ℕ) (rows : List Row) (n : ℕ) : Type 0 wh
 abbrev pub IsOn : List ℕ → List Row → Type 0
 IsOn option rows = first_of option rows ≡ Some (codes "true")
 
--- the options have these numbers, which are in their ranges
+-- The options have these numbers, which are in their ranges. A log is asked for only with one worker, and this number
+-- must be given, since another is the default.
 pub record AreOptions (rows : List Row) (o : Options) : Type 0 where
   pub workers : HasNumber (codes "workers") rows o.workers
   pub conflicts : HasNumber (codes "conflicts") rows o.conflicts
@@ -31,6 +32,7 @@ pub record AreOptions (rows : List Row) (o : Options) : Type 0 where
   pub seed_fits : o.seed < 2 ^ 64
   pub interleave : IsTrue o.interleave ↔ IsOn (codes "interleave") rows
   pub gap : HasNumber (codes "gap") rows o.gap
+  pub log : IsTrue o.log ↔ IsOn (codes "log") rows
   pub range : AreInRange o
 
 -- the word for this family was given

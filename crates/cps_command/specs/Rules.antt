@@ -44,12 +44,19 @@ gap_rule = record (new_rule (codes "gap")) {
   defaults = codes "0" ∷ [];
 }
 
--- `solve [--workers N] [--conflicts N] [--seed N] [--interleave] [--gap G]`
+-- `--log`, whose value is `true` where it is given, and else `false`
+unfoldable pub log_rule : Rule
+log_rule = record (new_rule (codes "log")) {
+  long = Some (codes "log");
+  action = Some SetTrue;
+}
+
+-- `solve [--workers N] [--conflicts N] [--seed N] [--interleave] [--gap G] [--log]`
 unfoldable pub solve_line : App
 solve_line =
-    with_rule (with_rule (with_rule
+    with_rule (with_rule (with_rule (with_rule
     (with_rule (with_rule (new_app (codes "solve")) workers_rule) conflicts_rule) seed_rule) interleave_rule)
-    gap_rule
+    gap_rule) log_rule
 
 -- `FAMILY`, a word
 unfoldable pub family_rule : Rule

@@ -56,6 +56,7 @@ pub(crate) fn options_of(matches: &ArgMatches<'_>) -> Option<Options>
         seed,
         interleave: is_on(matches, "interleave"),
         gap,
+        log: is_on(matches, "log"),
     };
     if options.are_in_range() {
         return Some(options);

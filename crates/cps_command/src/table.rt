@@ -6,7 +6,7 @@
 ghost use Rattle.std.specs.Prelude.{◌≡◌, ◌≢◌, [], false, IfOk, MatchOption};
 ghost use Rattle.clap.specs.Words.{app_of, rule_of, fault_of, subcommand_of, subcommand_rows_of};
 ghost use Rattle.clap.specs.declared.builder.Command.TheViews.{out-Command};
-ghost use Rattle.cps_command.specs.Rules.{workers_rule, conflicts_rule, seed_rule, interleave_rule, gap_rule, family_rule, size_rule, drawing_rule, solve_line, generating_line, with_reading_lines, with_generating_lines, command_table};
+ghost use Rattle.cps_command.specs.Rules.{workers_rule, conflicts_rule, seed_rule, interleave_rule, gap_rule, log_rule, family_rule, size_rule, drawing_rule, solve_line, generating_line, with_reading_lines, with_generating_lines, command_table};
 ghost use Rattle.cps_command.specs.Lines.{texts_of, IsPassed};
 
 use clap::error::ErrorKind;
@@ -67,7 +67,17 @@ fn gap_option<'a>(alloc: Global) -> Arg<'a>
         .default_value("0")
 }
 
-/// `solve [--workers N] [--conflicts N] [--seed N] [--interleave] [--gap G]`
+/// `--log`
+fn log_option<'a>(alloc: Global) -> Arg<'a>
+    ensures rule { rule_of result ≡ log_rule }
+    ensures local { result.global ≡ false }
+{
+    Arg::new(alloc, "log")
+        .long("log")
+        .action(ArgAction::SetTrue)
+}
+
+/// `solve [--workers N] [--conflicts N] [--seed N] [--interleave] [--gap G] [--log]`
 fn solve_line<'a>(alloc: Global) -> Result<Command<'a>, AllocError>
     ensures app { IfOk result (λ c. app_of c ≡ solve_line) }
     ensures local { IfOk result (λ c. (out-Command c).has_globals ≡ false) }
@@ -77,7 +87,8 @@ fn solve_line<'a>(alloc: Global) -> Result<Command<'a>, AllocError>
         .arg(conflicts_option(alloc))?
         .arg(seed_option(alloc))?
         .arg(interleave_option(alloc))?
-        .arg(gap_option(alloc))
+        .arg(gap_option(alloc))?
+        .arg(log_option(alloc))
 }
 
 /// `FAMILY`

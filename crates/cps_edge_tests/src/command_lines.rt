@@ -8,38 +8,46 @@ use std::process::Abort;
 use std::test::Fail;
 
 /// Words, each with the command that they are.
-static COMMANDS: [(&str, &str); 17] = [
+static COMMANDS: [(&str, &str); 19] = [
     (
         "cpsolve solve",
-        "Some(Solve(Options { workers: 4, conflicts: 10000, seed: 1, interleave: false, gap: 0 }))",
+        "Some(Solve(Options { workers: 4, conflicts: 10000, seed: 1, interleave: false, gap: 0, log: false }))",
     ),
     (
         "x solve --workers 1 --conflicts 0",
-        "Some(Solve(Options { workers: 1, conflicts: 0, seed: 1, interleave: false, gap: 0 }))",
+        "Some(Solve(Options { workers: 1, conflicts: 0, seed: 1, interleave: false, gap: 0, log: false }))",
     ),
     (
         "cpsolve solve --conflicts 7 --workers 16",
-        "Some(Solve(Options { workers: 16, conflicts: 7, seed: 1, interleave: false, gap: 0 }))",
+        "Some(Solve(Options { workers: 16, conflicts: 7, seed: 1, interleave: false, gap: 0, log: false }))",
     ),
     (
         "cpsolve solve --conflicts=1000000000",
-        "Some(Solve(Options { workers: 4, conflicts: 1000000000, seed: 1, interleave: false, gap: 0 }))",
+        "Some(Solve(Options { workers: 4, conflicts: 1000000000, seed: 1, interleave: false, gap: 0, log: false }))",
     ),
     (
         "cpsolve solve --interleave --seed 7",
-        "Some(Solve(Options { workers: 4, conflicts: 10000, seed: 7, interleave: true, gap: 0 }))",
+        "Some(Solve(Options { workers: 4, conflicts: 10000, seed: 7, interleave: true, gap: 0, log: false }))",
     ),
     (
         "cpsolve solve --seed=18446744073709551615",
-        "Some(Solve(Options { workers: 4, conflicts: 10000, seed: 18446744073709551615, interleave: false, gap: 0 }))",
+        "Some(Solve(Options { workers: 4, conflicts: 10000, seed: 18446744073709551615, interleave: false, gap: 0, log: false }))",
     ),
     (
         "cpsolve solve --gap 3 --conflicts 0",
-        "Some(Solve(Options { workers: 4, conflicts: 0, seed: 1, interleave: false, gap: 3 }))",
+        "Some(Solve(Options { workers: 4, conflicts: 0, seed: 1, interleave: false, gap: 3, log: false }))",
     ),
     (
         "cpsolve solve --gap=9223372036854775807",
-        "Some(Solve(Options { workers: 4, conflicts: 10000, seed: 1, interleave: false, gap: 9223372036854775807 }))",
+        "Some(Solve(Options { workers: 4, conflicts: 10000, seed: 1, interleave: false, gap: 9223372036854775807, log: false }))",
+    ),
+    (
+        "cpsolve solve --log --workers 1",
+        "Some(Solve(Options { workers: 1, conflicts: 10000, seed: 1, interleave: false, gap: 0, log: true }))",
+    ),
+    (
+        "cpsolve solve --workers=1 --gap 0 --interleave --log",
+        "Some(Solve(Options { workers: 1, conflicts: 10000, seed: 1, interleave: true, gap: 0, log: true }))",
     ),
     ("cpsolve validate", "Some(Validate)"),
     ("x validate", "Some(Validate)"),
@@ -95,6 +103,11 @@ static OTHERS: &str = "\
     cpsolve solve --gap -1\n\
     cpsolve solve --gap\n\
     cpsolve solve --gap 1 --gap 2\n\
+    cpsolve solve --log\n\
+    cpsolve solve --log --workers 2\n\
+    cpsolve solve --log --workers 1 --gap 1\n\
+    cpsolve solve --log=true --workers 1\n\
+    cpsolve solve --workers 1 --log --log\n\
     cpsolve solve x\n\
     cpsolve solve --help\n\
     cpsolve validate x\n\

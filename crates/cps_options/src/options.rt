@@ -1,6 +1,6 @@
 //! The options of a solving command.
 ghost use Rattle.std.specs.Prelude.{◌↔◌, IsTrue};
-ghost use Rattle.cps_options.specs.Ranges.{AreInRange};
+ghost use Rattle.cps_options.specs.Ranges.{AreInRange, MayLog};
 
 /// The fewest workers that may search.
 pub const LEAST_WORKERS: u32 = 1;
@@ -28,10 +28,19 @@ pub struct Options {
     pub interleave: bool,
     /// By how much the objective of a solution may miss the best one, at most `GREATEST_GAP`.
     pub gap: u64,
+    /// Whether a log of the proof is kept; only one worker with a gap of 0 may.
+    pub log: bool,
 }
 
 impl Options {
-    /// Whether the numbers are in their ranges.
+    /// Whether a log may be kept: by one worker, with no gap.
+    fn may_log(&self) -> bool
+        ensures { IsTrue result ↔ MayLog self.now }
+    {
+        self.workers == 1 && self.gap == 0
+    }
+
+    /// Whether the numbers are in their ranges, and a log is asked for only where it may be kept.
     pub fn are_in_range(&self) -> bool
         ensures { IsTrue result ↔ AreInRange self.now }
     {
@@ -39,5 +48,6 @@ impl Options {
             && self.workers <= MOST_WORKERS
             && self.conflicts <= MOST_CONFLICTS
             && self.gap <= GREATEST_GAP
+            && (!self.log || self.may_log())
     }
 }

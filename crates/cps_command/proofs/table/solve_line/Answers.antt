@@ -13,7 +13,8 @@ returns-clause-app c =
     let conflicts = c.in_ok-arg-2.ensures.shape c.conflicts_option.ensures.local ∙ ap₂ with_rule workers c.conflicts_option.ensures.rule in
     let seed = c.in_ok-arg-3.ensures.shape c.seed_option.ensures.local ∙ ap₂ with_rule conflicts c.seed_option.ensures.rule in
     let interleave = c.in_ok-arg-4.ensures.shape c.interleave_option.ensures.local ∙ ap₂ with_rule seed c.interleave_option.ensures.rule in
-    IfOk-weaker c.arg-5.result _ _ (λ r added. added.shape c.gap_option.ensures.local ∙ ap₂ with_rule interleave c.gap_option.ensures.rule) c.arg-5.ensures
+    let gap = c.in_ok-arg-5.ensures.shape c.gap_option.ensures.local ∙ ap₂ with_rule interleave c.gap_option.ensures.rule in
+    IfOk-weaker c.arg-6.result _ _ (λ r added. added.shape c.log_option.ensures.local ∙ ap₂ with_rule gap c.log_option.ensures.rule) c.arg-6.ensures
 
 pub returns-clause-local : goal.returns-clause-local
 returns-clause-local c =
@@ -21,4 +22,5 @@ returns-clause-local c =
     let conflicts = stays_local _ _ _ c.in_ok-arg-2.ensures workers c.conflicts_option.ensures.local in
     let seed = stays_local _ _ _ c.in_ok-arg-3.ensures conflicts c.seed_option.ensures.local in
     let interleave = stays_local _ _ _ c.in_ok-arg-4.ensures seed c.interleave_option.ensures.local in
-    IfOk-weaker c.arg-5.result _ _ (λ r added. stays_local _ _ _ added interleave c.gap_option.ensures.local) c.arg-5.ensures
+    let gap = stays_local _ _ _ c.in_ok-arg-5.ensures interleave c.gap_option.ensures.local in
+    IfOk-weaker c.arg-6.result _ _ (λ r added. stays_local _ _ _ added gap c.log_option.ensures.local) c.arg-6.ensures
