@@ -278,8 +278,8 @@ splits_back m o crew after len w = total_same words_splits crew after len (λ i 
 -- ---- the words that are left
 
 pub came_to : (m : CpModel) (o : Options) (k : BoundsPart) (upper lower : Bound) (ends : List Ending) → AreGathered m o 0 o.workers k ends → upper ≡ k.offered → lower ≡ raised_above k.raised (At (objective_start m))
-    → IsLowerBound m lower → BoundLe upper k.saw_upper → IsNoLower k.saw_lower lower → CameTo m o upper lower ends
-came_to m o k upper lower ends h u l floor above below = record {
+    → IsLowerBound m lower → BoundLe upper k.saw_upper → IsNoLower k.saw_lower lower → o.log ≡ false → CameTo m o upper lower ends
+came_to m o k upper lower ends h u l floor above below no_log = record {
   kinds = h.kinds;
   upper_is = u ∙ h.offered;
   lower_is = l ∙ h.raised (At (objective_start m));
@@ -292,4 +292,5 @@ came_to m o k upper lower ends h u l floor above below = record {
     below = y.below lower below;
   }) ends h.each;
   goes = each_from_none (GoesByModel m o) ends h.goes;
+  open_yet = λ asked. absurd (let q : false ≡ true = sym no_log ∙ asked in cc);
 }

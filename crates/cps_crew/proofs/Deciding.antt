@@ -22,7 +22,7 @@ use Rattle.cps_search.specs.Enough.{enough}
 use Rattle.cps_port.specs.Entries.{most_rows}
 use Rattle.cps_port.specs.Parts.{newcomer}
 use Rattle.cps_search.specs.Guided.{IsGuidedBy, RunsBy}
-use Rattle.cps_search.specs.Moves.{fresh}
+use Rattle.cps_search.specs.Moves.{fresh, with_log}
 use Rattle.cps_search.proofs.AlikeInstances.{enough_alike}
 use Rattle.cps_search.proofs.RunsInOrder.{never_spent}
 use Rattle.cps_options.specs.declared.options.Options.{Options}
@@ -57,17 +57,17 @@ unspent m options number upper e fixed goes within did =
     let spent = subst (λ (k : WorkerKind). DidItsPartAs k m options.conflicts upper e) fixed did in
     let plan = steered goes.instance e.guidance (subst (λ (k : WorkerKind). IsGuidedBy k goes.instance e.guidance) fixed goes.guide) in
     let run = subst (λ (g : Option Guidance). IfSome g (λ guidance. IsEndOfRun goes.instance options.gap options.conflicts guidance e)) plan.1 goes.decisions in
-    never_spent goes.instance options.gap most_rows (Some options.conflicts) run.first (goes_in_order run.first plan.0 run.guided) (run.done, run.last) newcomer run.after spent.clause spent.below options.conflicts refl within
-    (subst (λ (x : End). RunsBy most_rows (fresh goes.instance options.gap (Some options.conflicts), run.first) (run.done, run.last) newcomer run.after x) spent.end run.runs)
+    never_spent goes.instance options.gap most_rows (Some options.conflicts) run.log run.first (goes_in_order run.first plan.0 run.guided) (run.done, run.last) newcomer run.after spent.clause spent.below options.conflicts refl within
+    (subst (λ (x : End). RunsBy most_rows (with_log run.log (fresh goes.instance options.gap (Some options.conflicts)), run.first) (run.done, run.last) newcomer run.after x) spent.end run.runs)
 
 -- where there is a worker, the first one is fixed
-first_fixed : (workers : ℕ) (es : List Ending) → map (λ (e : Ending). e.kind) es ≡ kinds_of workers → 1 ≤ workers → (first : Ending) × (rest : List Ending) × (es ≡ first ∷ rest) × (first.kind ≡ kinds.Fixed)
+pub first_fixed : (workers : ℕ) (es : List Ending) → map (λ (e : Ending). e.kind) es ≡ kinds_of workers → 1 ≤ workers → (first : Ending) × (rest : List Ending) × (es ≡ first ∷ rest) × (first.kind ≡ kinds.Fixed)
 first_fixed zero es e l = absurd (omega (arith, l))
 first_fixed (suc n) [] e l = absurd (cc e)
 first_fixed (suc n) (x ∷ es) e l = (x, es, refl, (let h : x.kind ∷ map (λ (y : Ending). y.kind) es ≡ kinds.Fixed ∷ map worker_kind (range_with_len 1 n) = e in cc h))
 
 -- where the bounds have met the model is decided
-decided_by : (upper lower : Bound) (gap : ℕ) → is_closed lower upper gap ≡ true → (status_of upper lower gap ≡ Optimal) ⊎ (status_of upper lower gap ≡ Infeasible)
+pub decided_by : (upper lower : Bound) (gap : ℕ) → is_closed lower upper gap ≡ true → (status_of upper lower gap ≡ Optimal) ⊎ (status_of upper lower gap ≡ Infeasible)
 decided_by (At v) lower gap met = inl (ap (λ (b : Bool). if b then Optimal else Feasible) met)
 decided_by Infinite lower gap met = inr (ap (λ (b : Bool). if b then Infeasible else Unknown) met)
 

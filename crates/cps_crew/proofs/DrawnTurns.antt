@@ -1,5 +1,5 @@
 -- Workers that take turns.
-use Rattle.std.specs.Prelude.{Option, None, Bool, true, false, if◌then◌else◌, All, map}
+use Rattle.std.specs.Prelude.{Option, None, IsTrue, Bool, true, false, if◌then◌else◌, All, map}
 use Rattle.std.specs.List.{range_with_len}
 use Rattle.std.proofs.lemmas.List.Elements.{All-nil, All-cons}
 use Rattle.std.proofs.Common.{◌≡◌, ◌≢◌, refl, sym, ap, subst, ◌∙◌, ℕ, zero, suc, ◌+◌, ◌<◌, ◌≤◌, ◌%◌, List, [], ◌∷◌, length, get_or, set, drop, arith, length-set, ap₂, replicate}
@@ -22,17 +22,21 @@ use Rattle.cps_port.specs.Others.{ActsAlone}
 use Rattle.cps_port.specs.Order.{BoundLe, IsNoLower, lesser, raised_above}
 use Rattle.cps_port.specs.Incumbents.{IsLowerBound}
 use Rattle.cps_port.specs.Sound.{IsSoundShared, least_offer, greatest_raise}
+use Rattle.cps_model.specs.Statuses.{is_closed}
+use Rattle.cps_search.specs.declared.end.End.{End}
+use Rattle.cps_search.specs.declared.end.End.TheVariants as ends
 use Rattle.cps_search.specs.declared.end.WorkerKind.{WorkerKind}
 use Rattle.cps_search.specs.declared.end.Phase.{Phase}
 use Rattle.cps_search.specs.Ends.{Ending, IsHonestEnding, IsOver}
 use Rattle.cps_search.specs.Following.{best_bound}
 use Rattle.cps_crew.specs.declared.interleaved.Turning.{Turning}
 use Rattle.cps_crew.specs.Workers.{AnySearch, search_in, kind_in, ending_in, worker_kind, HasTurned, TakesTurnsAs}
-use Rattle.cps_crew.specs.Outcomes.{CameTo, EndedWithin, GoesByModel, best_of, greatest_raised}
-use Rattle.cps_crew.specs.Crews.{IsHonestlyDone}
+use Rattle.cps_crew.specs.Outcomes.{CameTo, EndedWithin, FirstSpentOnlyIf, GoesByModel, SpentOnlyIf, best_of, greatest_raised}
+use Rattle.cps_crew.specs.Crews.{IsHonestlyDone, LastSawOpen}
 use Rattle.cps_crew.specs.Turning.{AtWork, IsTurning, AreTurning, IsFresh, AreFresh, one_at_work, count_at_work, end_of_phase, ended_of, place_at_work, drawn_place, TakesTurnAt, TakesDrawnTurns}
 use Rattle.cps_crew.specs.Turning.{none_yet as none_drawn, one_more as one_drawn}
 use Rattle.cps_crew.proofs.MemberRuns.{has_begun, has_kept, none_taken, turned_on, still_runs, left_in, lighter_in, done_from}
+use Rattle.cps_crew.proofs.AloneBounds.{SeesAll}
 use Rattle.cps_crew.proofs.Crews.{each_cons, each_from_none, lesser_best, over_is}
 
 -- ---- one of a list changes
@@ -74,19 +78,19 @@ module _ {W : Type 0} (known : W → AnySearch) where
 
 pub work_model : (m : CpModel) (o : Options) (i : ℕ) (s : AnySearch) (q : Part) → AtWork m o i s q → (search_in s).instance.model ≡ m
 work_model m o i s q h =
-    let b = has_begun m o.gap o.conflicts h.first h.begins in
+    let b = has_begun m o h.first h.begins in
     let kept = has_kept most_rows h.first s newcomer q h.turns in
     kept.model ∙ b.model
 
 pub work_memory : (m : CpModel) (o : Options) (i : ℕ) (s : AnySearch) (q : Part) → AtWork m o i s q → (search_in s).refused ≡ false
 work_memory m o i s q h =
-    let b = has_begun m o.gap o.conflicts h.first h.begins in
+    let b = has_begun m o h.first h.begins in
     let kept = has_kept most_rows h.first s newcomer q h.turns in
     kept.refused ∙ b.refused
 
 pub work_imported : (m : CpModel) (o : Options) (i : ℕ) (s : AnySearch) (q : Part) → AtWork m o i s q → (search_in s).imported ≤ length q.board.taken
 work_imported m o i s q h =
-    let b = has_begun m o.gap o.conflicts h.first h.begins in
+    let b = has_begun m o h.first h.begins in
     let kept = has_kept most_rows h.first s newcomer q h.turns in
     kept.moves.imports (let none = b.imported in omega (arith, none))
 
@@ -229,13 +233,13 @@ pub first_rows : (m : CpModel) (actors rows : ℕ) → length (first_shared m ac
 first_rows m actors rows = length-replicate {A = Option Entry} rows None
 
 module _ {W : Type 0} (known : W → AnySearch) where
-  pub all_fresh : (m : CpModel) (o : Options) (actors rows : ℕ) (c : Shared) (crew : List (Turning W)) → c ≡ first_shared m actors rows → AreFresh known m o.gap o.conflicts o.seed crew → AreTurning known m o c crew
+  pub all_fresh : (m : CpModel) (o : Options) (actors rows : ℕ) (c : Shared) (crew : List (Turning W)) → c ≡ first_shared m actors rows → AreFresh known m o crew → AreTurning known m o c crew
   all_fresh m o actors rows c crew is h = record { each = λ i d l. one i (get_or crew i d) (h.each i d l) }
     where
-      one : (i : ℕ) (w : Turning W) → IsFresh known m o.gap o.conflicts o.seed i w → IsTurning known m o c i w
+      one : (i : ℕ) (w : Turning W) → IsFresh known m o i w → IsTurning known m o c i w
       one i w k =
           let s = known w.worker in
-          let b = has_begun m o.gap o.conflicts s k.begins in
+          let b = has_begun m o s k.begins in
           let part : part_at c i ≡ newcomer = ap (λ (x : Shared). part_at x i) is ∙ fresh_part m actors rows i in
           record {
             kind = k.kind;
@@ -292,10 +296,28 @@ module _ {W : Type 0} (known : W → AnySearch) (m : CpModel) (o : Options) (upp
         goes = each_cons (GoesByModel m o) first (ended_of known w) (map (ended_of known) ws) (subst (GoesByModel m o first) (sym is) k.done.goes) rest.goes;
       }
 
+only_if : (P Q : Type 0) (end : End) → (P → Q) → SpentOnlyIf P end → SpentOnlyIf Q end
+only_if P Q ends.Exhausted f h = tt
+only_if P Q ends.SawClosed f h = tt
+only_if P Q (ends.Spent clause below) f h = f h
+only_if P Q ends.RoundsDone f h = tt
+
 module _ {W : Type 0} (known : W → AnySearch) where
-  pub came_in_turns : (m : CpModel) (o : Options) (c : Shared) (crew : List (Turning W)) → IsSoundShared c → c.model ≡ m → length crew ≡ o.workers → actor_count c ≡ length crew → AreTurning known m o c crew → count_at_work crew ≡ 0
+  -- where the first worker saw last what the bounds are, it spent its budget only where they have not met
+  pub open_first : (m : CpModel) (o : Options) (c : Shared) (crew : List (Turning W)) → AreTurning known m o c crew → count_at_work crew ≡ 0 → SeesAll c.bounds → FirstSpentOnlyIf (is_closed c.bounds.lower c.bounds.upper o.gap ≡ false) (map (ended_of known) crew)
+  open_first m o c [] h none sees = tt
+  open_first m o c (w ∷ ws) h none sees =
+      let t = h.each 0 w (omega arith) in
+      let done = t.done (all_over (w ∷ ws) none 0 w (omega arith)) in
+      let now : LastSawOpen o.gap (part_at c 0).bounds → is_closed c.bounds.lower c.bounds.upper o.gap ≡ false =
+      λ saw. ap₂ (λ (l u : Bound). is_closed l u o.gap) (sees.lower saw.lower saw.saw_lower) (sym sees.upper) ∙ saw.open_yet in
+      subst (λ (end : End). SpentOnlyIf (is_closed c.bounds.lower c.bounds.upper o.gap ≡ false) end) (sym (ap end_of_phase done.over))
+      (only_if (LastSawOpen o.gap (part_at c 0).bounds) (is_closed c.bounds.lower c.bounds.upper o.gap ≡ false) done.end now (done.looked t.kind))
+
+module _ {W : Type 0} (known : W → AnySearch) where
+  pub came_in_turns : (m : CpModel) (o : Options) (c : Shared) (crew : List (Turning W)) → IsSoundShared c → c.model ≡ m → length crew ≡ o.workers → actor_count c ≡ length crew → AreTurning known m o c crew → count_at_work crew ≡ 0 → (IsTrue o.log → SeesAll c.bounds)
       → CameTo m o c.bounds.upper c.bounds.lower (map (ended_of known) crew)
-  came_in_turns m o c crew sound model len actors h none =
+  came_in_turns m o c crew sound model len actors h none alone =
       let all = concluded known m o c.bounds.upper c.bounds.lower 0 crew c.bounds.parts (sound.both ∙ actors) (λ i d l.
       let t = h.each i d l in
       subst (λ (j : ℕ). IsConcluded known m o c.bounds.upper c.bounds.lower j (get_or c.bounds.parts i no_bounds) (get_or crew i d)) (let q : i ≡ 0 + i = omega arith in q)
@@ -307,6 +329,7 @@ module _ {W : Type 0} (known : W → AnySearch) where
         floor = subst (λ (x : CpModel). IsLowerBound x c.bounds.lower) model sound.bounds.floor;
         each = all.each;
         goes = each_from_none (GoesByModel m o) (map (ended_of known) crew) all.goes;
+        open_yet = λ asked. open_first known m o c crew h none (alone asked);
       }
 
   pub each_over : (m : CpModel) (o : Options) (c : Shared) (crew : List (Turning W)) → AreTurning known m o c crew → count_at_work crew ≡ 0 → All (λ (w : Turning W). IsOver (search_in (known w.worker)).phase) crew

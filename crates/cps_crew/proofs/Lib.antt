@@ -3,3 +3,6 @@ pub mod Outcomes
 pub mod MemberRuns
 pub mod Crews
 pub mod DrawnTurns
+pub mod AloneBounds
+pub mod AloneTurns
+pub mod OutcomeLogs

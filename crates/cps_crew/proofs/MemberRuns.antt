@@ -1,5 +1,5 @@
 -- What turns of a worker of any kind come to, and why they come to an end.
-use Rattle.std.specs.Prelude.{Bool, Option, Some, None, is_some, true, false, List, ℤ}
+use Rattle.std.specs.Prelude.{Bool, Option, Some, None, IfSome, is_some, true, false, List, ℤ}
 use Rattle.std.proofs.Common.{◌≡◌, refl, sym, ap, subst, ◌∙◌, ℕ, ◌+◌, ◌<◌, inl, inr, []}
 use Rattle.cps_model.specs.declared.model.CpModel.{CpModel}
 use Rattle.cps_instance.specs.Strategies.{model_sums}
@@ -17,20 +17,28 @@ use Rattle.cps_branch.specs.declared.guidance.Guidance.{Guidance}
 use Rattle.cps_branch.specs.declared.guidance.Guidance.TheVariants.{Steered, Hinted}
 use Rattle.cps_branch.specs.Guidances.{Branching, in_order, by_activity, guidance_of, ChoosesAs, HearsAs, StaysAs}
 use Rattle.cps_branch.specs.Strategies.{Planned}
+use Rattle.cps_model.specs.declared.bound.Bound.{Bound}
+use Rattle.cps_model.specs.Statuses.{is_closed}
+use Rattle.cps_trail.specs.Trail.{Trail}
+use Rattle.cps_port.specs.declared.part.BoundsPart.{BoundsPart}
+use Rattle.cps_tracer.specs.Traced.{Traced}
 use Rattle.cps_search.specs.declared.end.End.{End}
+use Rattle.cps_search.specs.declared.end.End.TheVariants as ends
 use Rattle.cps_search.specs.declared.end.Phase.{Phase}
 use Rattle.cps_search.specs.declared.end.WorkerKind.{WorkerKind}
 use Rattle.cps_search.specs.declared.end.WorkerKind.TheVariants as kinds
 use Rattle.cps_search.specs.declared.turn.Turn.{Turn}
 use Rattle.cps_search.specs.declared.turn.Turn.TheVariants as turns
+use Rattle.cps_search.specs.Logged.{Log, items_of}
+use Rattle.cps_search.specs.Moves.{fresh, with_log}
 use Rattle.cps_search.specs.Searches.{Search, IsSoundSearch}
 use Rattle.cps_search.specs.Following.{MovesWith}
 use Rattle.cps_search.specs.Guided.{IsGuidedBy, RunsBy}
-use Rattle.cps_search.specs.Ends.{BrancherTurn, DecidedBy, EndsAs, HeardOne, IsComplete, IsHonestEnding, IsOver, RunsTo, none_yet, one_more, end_of, ending}
+use Rattle.cps_search.specs.Ends.{BrancherTurn, DecidedBy, EndsAs, HeardOne, IsComplete, IsHonestEnding, IsOver, RunsTo, TurnCaused, none_yet, one_more, end_of, ending}
 use Rattle.cps_search.proofs.RunEnds.{honest_ending}
 use Rattle.cps_search.proofs.TurnTermination.{left_of, lowered}
 use Rattle.cps_search.proofs.WorkerInvariants.{HasRun, run_begins, run_goes_on, run_ends}
-use Rattle.cps_core_guided.specs.Reforming.{CoreSearch}
+use Rattle.cps_core_guided.specs.Reforming.{CoreSearch, whole}
 use Rattle.cps_core_guided.specs.CoreTurns.{core_ending, no_turn, one_turn_more}
 use Rattle.cps_core_guided.proofs.CoreEnds.{core-honest}
 use Rattle.cps_core_guided.proofs.CoreTermination.{core_left, core_lowered}
@@ -41,9 +49,9 @@ use Rattle.cps_neighbourhood.specs.Nears.{Near, BeginsNear, NearRunsInTurns, One
 use Rattle.cps_neighbourhood.specs.Nears.{none_yet as near_none_yet, one_more as near_one_more}
 use Rattle.cps_neighbourhood.proofs.LearntCounts.{HasNearRun, near_begins, near_goes_on, near_honest, near_turns_run}
 use Rattle.cps_neighbourhood.proofs.RoundTermination.{near_left, near_lowered}
-use Rattle.cps_crew.specs.Workers.{AnySearch, by_brancher, by_cores, in_rounds, search_in, HasBrancher, BeginsGuided, BeginsByCores, BeginsRounds, BeginsAs, DrawsBy, near_stream, IsAimed, TakesTurnsBy, TakesCoreTurnsBy, RunsByCores, TurnedBy, TurnedByCores, TurnedNear, HasTurned, TakesTurnsAs, HasEnded}
-use Rattle.cps_crew.specs.Outcomes.{HasSums}
-use Rattle.cps_crew.specs.Crews.{IsHonestlyDone}
+use Rattle.cps_crew.specs.Workers.{AnySearch, by_brancher, by_cores, in_rounds, search_in, HasBrancher, BeginsGuided, BeginsByCores, BeginsRounds, BeginsAs, DrawsBy, keeps_log, near_stream, IsAimed, TakesTurnsBy, TakesCoreTurnsBy, RunsByCores, TurnedBy, TurnedByCores, TurnedNear, HasTurned, TakesTurnsAs, HasEnded}
+use Rattle.cps_crew.specs.Outcomes.{HasSums, SpentOnlyIf}
+use Rattle.cps_crew.specs.Crews.{IsHonestlyDone, LastSawOpen}
 
 pub none_of : (o : Option End) → false ≡ is_some o → o ≡ None
 none_of None e = refl
@@ -62,16 +70,29 @@ pub record HasBegun (m : CpModel) (s : Search) : Type 0 where
   pub imported : s.imported ≡ 0
   pub running : IsOver s.phase → ⊥
 
-pub has_begun : (m : CpModel) (gap conflicts : ℕ) (s : AnySearch) → BeginsAs m gap conflicts s → HasBegun m (search_in s)
-has_begun m gap conflicts (by_brancher kind b s) h =
-    let is = h.begins.is in
+-- a log changes nothing else of a search that begins
+start_is : (log : Option Traced) (s : Search) → with_log log s ≡ record s { log = (with_log log s).log }
+start_is None s = refl
+start_is (Some t) s = refl
+
+start_logs : (log : Option Traced) (s : Search) → s.log ≡ None → is_some (with_log log s).log ≡ is_some log
+start_logs None s none = ap (λ (o : Option Log). is_some o) none
+start_logs (Some t) s none = refl
+
+kept_items : (log : Option Log) → is_some (items_of log) ≡ is_some log
+kept_items None = refl
+kept_items (Some l) = refl
+
+pub has_begun : (m : CpModel) (o : Options) (s : AnySearch) → BeginsAs m o s → HasBegun m (search_in s)
+has_begun m o (by_brancher kind b s) h =
+    let is = h.begins.is ∙ start_is h.begins.log (fresh h.begins.instance o.gap (Some o.conflicts)) in
     record {
       model = ap (λ (x : Search). x.instance.model) is ∙ h.begins.first.model;
       refused = ap (λ (x : Search). x.refused) is;
       imported = ap (λ (x : Search). x.imported) is;
       running = λ over. subst (λ (x : Search). IsOver x.phase) is over;
     }
-has_begun m gap conflicts (by_cores brancher s) h =
+has_begun m o (by_cores brancher s) h =
     let b = h.begins.is in
     record {
       model = b.instance ∙ h.begins.first.model;
@@ -79,7 +100,7 @@ has_begun m gap conflicts (by_cores brancher s) h =
       imported = ap (λ (x : Search). x.imported) b.search;
       running = λ over. subst (λ (x : Phase). IsOver x) (phase-search s b.ended ∙ ap (λ (x : Search). x.phase) b.search) over;
     }
-has_begun m gap conflicts (in_rounds n) h =
+has_begun m o (in_rounds n) h =
     let is = h.is.search in
     record {
       model = ap (λ (x : Search). x.instance.model) is ∙ h.first.model;
@@ -272,29 +293,59 @@ sums_of kinds.Activity m defs h = h
 sums_of kinds.CoreGuided m defs h = tt
 sums_of kinds.Near m defs h = h
 
+same_end : (a b : End) → Some a ≡ Some b → a ≡ b
+same_end a b e = cc
+
+-- a turn spends the budget only where it saw that the bounds had not met
+spent_open : (chooses : Trail → Option Atom → Type 0) (s t : Search) (rows : ℕ) (p q : Part) (turn : Turn) (end : End) → end_of turn ≡ Some end → TurnCaused chooses s t rows p q turn → SpentOnlyIf (LastSawOpen s.gap q.bounds) end
+spent_open chooses s t rows p q turns.Imported end e h = absurd (cc e)
+spent_open chooses s t rows p q turns.Decided end e h = absurd (cc e)
+spent_open chooses s t rows p q turns.Learnt end e h = absurd (cc e)
+spent_open chooses s t rows p q turns.Found end e h = absurd (cc e)
+spent_open chooses s t rows p q turns.Exhausted end e h = subst (SpentOnlyIf (LastSawOpen s.gap q.bounds)) (same_end ends.Exhausted end e) tt
+spent_open chooses s t rows p q turns.SawClosed end e h = subst (SpentOnlyIf (LastSawOpen s.gap q.bounds)) (same_end ends.SawClosed end e) tt
+spent_open chooses s t rows p q (turns.Spent clause below) end e h =
+    let saw = h.begins.bounds in
+    let is = saw.looks.is in
+    subst (SpentOnlyIf (LastSawOpen s.gap q.bounds)) (same_end (ends.Spent clause below) end e) (record {
+      lower = saw.lower;
+      saw_lower = ap (λ (x : BoundsPart). x.saw_lower) is;
+      open_yet = subst (λ (b : Bound). is_closed saw.lower b s.gap ≡ false) (sym (ap (λ (x : BoundsPart). x.saw_upper) is)) saw.open_yet;
+    })
+spent_open chooses s t rows p q turns.RoundsDone end e h = absurd h
+spent_open chooses s t rows p q (turns.Reformed base) end e h = absurd h
+
 -- one with a brancher that goes by what the model says
-guided_done : (m : CpModel) (o : Options) (number : ℕ) (kind : WorkerKind) (b c d : Branching) (s u t : Search) (n q : Part) → BeginsGuided m o.gap o.conflicts kind b s → TakesTurnsBy most_rows (s, b) (u, c) newcomer n → TurnedBy most_rows (u, c) (t, d) n q true
+guided_done : (m : CpModel) (o : Options) (number : ℕ) (kind : WorkerKind) (b c d : Branching) (s u t : Search) (n q : Part) → BeginsGuided m o kind b s → TakesTurnsBy most_rows (s, b) (u, c) newcomer n → TurnedBy most_rows (u, c) (t, d) n q true
     → IsHonestlyDone m o number q.bounds (by_brancher kind d t)
 guided_done m o number kind b c d s u t n q begins turns last =
     let e = some_of (end_of last.turn) last.last in
     let first = begins.begins in
     let ends = run_ends (ChoosesAs c) s u t most_rows newcomer n q last.turn e.0 last.before (has_run most_rows (s, b) newcomer (u, c) n turns) last.takes.search e.1 in
+    let start = fresh first.instance o.gap (Some o.conflicts) in
+    let bare = start_is first.log start in
     let runs = subst (λ (x : Search). RunsTo x t newcomer q e.0) first.is ends in
+    let instance : t.instance ≡ first.instance = runs.setting.instance ∙ ap (λ (x : Search). x.instance) bare in
+    let before = has_run most_rows (s, b) newcomer (u, c) n turns in
+    let gap : u.gap ≡ o.gap = before.setting.gap ∙ ap (λ (x : Search). x.gap) first.is ∙ ap (λ (x : Search). x.gap) bare in
+    let logs : is_some (items_of t.log) ≡ keeps_log kind o.log = kept_items t.log ∙ runs.setting.logs ∙ start_logs first.log start refl ∙ first.asked in
     let all : RunsBy most_rows (s, b) (t, d) newcomer q e.0 = record { before = (u, c); part = n; turns = turns; turn = last.turn; last = last.takes; ended = e.1 } in
     let same : guidance_of d ≡ guidance_of b = turn_guided u t c d last.turn last.takes.brancher ∙ turns_guided most_rows (s, b) newcomer (u, c) n turns in
     record {
       end = e.0;
       over = ends.phase;
       honest = subst (λ (x : CpModel). IsHonestEnding x o.gap o.conflicts q.bounds (ending kind (Some (guidance_of d)) e.0 t)) first.first.model
-          (honest_ending first.instance o.gap o.conflicts t newcomer q kind (Some (guidance_of d)) e.0 (complete_of kind begins.guided) runs last.after refl refl);
-      sums = sums_of kind m t.instance.defs (ap (λ (x : Problem). x.defs) runs.setting.instance ∙ first.first.sums);
+          (honest_ending first.instance o.gap o.conflicts first.log t newcomer q kind (Some (guidance_of d)) e.0 (complete_of kind begins.guided) runs last.after refl refl);
+      sums = sums_of kind m t.instance.defs (ap (λ (x : Problem). x.defs) instance ∙ first.first.sums);
       goes = record {
         instance = first.instance;
         is_instance = first.first.sound;
         model = first.first.model;
-        sums = sym (ap (λ (x : Problem). x.defs) runs.setting.instance);
-        guide = subst (λ (x : Guidance). IsGuidedBy kind first.instance (Some x)) (sym same) (subst (λ (x : Search). IsGuidedBy kind x.instance (Some (guidance_of b))) first.is begins.guide);
+        sums = sym (ap (λ (x : Problem). x.defs) instance);
+        guide = subst (λ (x : Guidance). IsGuidedBy kind first.instance (Some x)) (sym same) (subst (λ (x : Search). IsGuidedBy kind x.instance (Some (guidance_of b))) (first.is ∙ bare) begins.guide);
         decisions = record {
+          log = first.log;
+          blank = first.blank;
           first = b;
           idle = begins.idle;
           guided = sym same;
@@ -306,7 +357,9 @@ guided_done m o number kind b c d s u t n q begins turns last =
         };
         cores = λ is. absurd (subst HasBrancher is begins.guided);
         rounds = λ is. absurd (subst HasBrancher is begins.guided);
+        logs = logs;
       };
+      looked = λ fixed. subst (λ (n : ℕ). SpentOnlyIf (LastSawOpen n q.bounds) e.0) gap (spent_open (ChoosesAs c) u t most_rows n q last.turn e.0 e.1 last.takes.search.cause);
     }
 
 -- one that went by cores
@@ -332,7 +385,9 @@ core_done m o number b c d s u t n q begins turns last =
         decisions = tt;
         cores = λ is. record { first = s; idle = b; begins = begins; done = t; last = d; after = q; runs = runs; seen = refl };
         rounds = λ is. absurd (cc is);
+        logs = kept_items (whole t).log ∙ ap (λ (l : Option Log). is_some l) last.takes.after.no_log;
       };
+      looked = λ fixed. absurd (cc fixed);
     }
 
 -- one that went in rounds
@@ -360,10 +415,12 @@ near_done m o number s u t n q begins draws turns last =
         decisions = tt;
         cores = λ is. absurd (cc is);
         rounds = λ is. record { first = s; begins = drawn; done = t; after = q; runs = runs; seen = refl };
+        logs = kept_items t.search.log ∙ run.setting.logs ∙ ap (λ (x : Search). is_some x.log) begins.is.search;
       };
+      looked = λ fixed. absurd (cc fixed);
     }
 
-done_by : (m : CpModel) (o : Options) (number : ℕ) (s u t : AnySearch) (n q : Part) → BeginsAs m o.gap o.conflicts s → DrawsBy o.seed number s → TakesTurnsAs most_rows s u newcomer n → HasTurned most_rows u t n q true
+done_by : (m : CpModel) (o : Options) (number : ℕ) (s u t : AnySearch) (n q : Part) → BeginsAs m o s → DrawsBy o.seed number s → TakesTurnsAs most_rows s u newcomer n → HasTurned most_rows u t n q true
     → IsHonestlyDone m o number q.bounds t
 done_by m o number (by_brancher k g s) (by_brancher l h u) (by_brancher r i t) n q begins draws turns last =
     subst (λ (x : WorkerKind). IsHonestlyDone m o number q.bounds (by_brancher x i t)) (sym (last.0 ∙ turns.0))
@@ -384,5 +441,5 @@ done_by m o number (in_rounds s) (in_rounds u) (by_cores i t) n q begins draws t
 done_by m o number (in_rounds s) (by_brancher l h u) t n q begins draws turns last = absurd turns
 done_by m o number (in_rounds s) (by_cores h u) t n q begins draws turns last = absurd turns
 
-pub done_from : (m : CpModel) (o : Options) (number : ℕ) (s t : AnySearch) (q : Part) → BeginsAs m o.gap o.conflicts s → DrawsBy o.seed number s → HasEnded most_rows s t newcomer q → IsHonestlyDone m o number q.bounds t
+pub done_from : (m : CpModel) (o : Options) (number : ℕ) (s t : AnySearch) (q : Part) → BeginsAs m o s → DrawsBy o.seed number s → HasEnded most_rows s t newcomer q → IsHonestlyDone m o number q.bounds t
 done_from m o number s t q begins draws h = done_by m o number s h.before t h.part q begins draws h.turns h.last

@@ -1,5 +1,5 @@
 -- What workers came to, with the bounds that they left, is a good outcome.
-use Rattle.std.specs.Prelude.{Option, Some, None, IfSome, All, int_lt, if◌then◌else◌, Bool, true, false, ℤ}
+use Rattle.std.specs.Prelude.{Option, Some, None, IfSome, is_some, All, int_lt, if◌then◌else◌, Bool, true, false, ℤ}
 use Rattle.std.proofs.Common.{◌≡◌, ◌≢◌, ◌≤◌, ℕ, List, [], ◌∷◌, inl, inr, ◌⊎◌, arith, refl, sym, ap, subst, ◌∙◌}
 use Rattle.std.proofs.lemmas.Int.{ints}
 use Rattle.std.proofs.lemmas.List.Elements.{All-nil, All-cons, All-head, All-push, All-tail, All-weaker}
@@ -27,7 +27,8 @@ use Rattle.cps_search.proofs.Bounds.{greater-second}
 use Rattle.cps_crew.proofs.Deciding.{decides}
 use Rattle.cps_options.specs.declared.options.Options.{Options}
 use Rattle.cps_crew.specs.declared.outcome.Outcome.{Outcome}
-use Rattle.cps_crew.specs.Outcomes.{IsGoodOutcome, HasSums, DidItsPart, DidItsPartAs, SpentItsBudget, EndedWithin, CameTo, better, best_of, core_if, core_of, greatest_raised}
+use Rattle.cps_crew.specs.Logs.{IsLogOfOutcome, log_of}
+use Rattle.cps_crew.specs.Outcomes.{IsGoodOutcome, GoesByModel, HasSums, DidItsPart, DidItsPartAs, SpentItsBudget, EndedWithin, CameTo, better, best_of, core_if, core_of, greatest_raised}
 
 -- ---- bounds that meet
 
@@ -127,7 +128,7 @@ spent_apart m gap conflicts upper lower e h raised apart = go e.end refl w.why
 -- ---- the core
 
 -- what holds of a worker's core where it is the one that counts
-core_by : (P : List ℤ → Type 0) (end : End) (raised : Option Bound) (core other : List ℤ) → ((end ≡ ends.Exhausted) × (raised ≡ Some Infinite) → P core) → (((end ≡ ends.Exhausted) × (raised ≡ Some Infinite) → ⊥) → P other) → P (core_if end raised core other)
+pub core_by : (P : List ℤ → Type 0) (end : End) (raised : Option Bound) (core other : List ℤ) → ((end ≡ ends.Exhausted) × (raised ≡ Some Infinite) → P core) → (((end ≡ ends.Exhausted) × (raised ≡ Some Infinite) → ⊥) → P other) → P (core_if end raised core other)
 core_by P ends.Exhausted (Some Infinite) core other counts passes = counts (refl, refl)
 core_by P ends.Exhausted (Some (At v)) core other counts passes = passes (λ h. absurd (let bad : Some (At v) ≡ Some Infinite = h.1 in cc))
 core_by P ends.Exhausted None core other counts passes = passes (λ h. absurd (let bad : None ≡ Some Infinite = h.1 in cc))
@@ -169,14 +170,14 @@ infeasible_top (At u) lower gap e = absurd (not_infeasible (is_closed lower (At 
 pub all_found : (m : CpModel) (options : Options) (upper lower : Bound) (es : List Ending) → CameTo m options upper lower es → All (λ (e : Ending). IfSome e.best (IsSolution m)) es
 all_found m options upper lower es h = All-weaker (EndedWithin m options.gap options.conflicts upper lower) (λ (e : Ending). IfSome e.best (IsSolution m)) (λ e k. k.ended.best) es h.each
 
-apart_parts : (m : CpModel) (options : Options) (o : Outcome) → CameTo m options o.upper o.lower o.ends → is_closed o.lower o.upper options.gap ≡ false → All (DidItsPart m options.conflicts o.upper) o.ends
+pub apart_parts : (m : CpModel) (options : Options) (o : Outcome) → CameTo m options o.upper o.lower o.ends → is_closed o.lower o.upper options.gap ≡ false → All (DidItsPart m options.conflicts o.upper) o.ends
 apart_parts m options o h apart i d l =
     let raised = subst (λ (b : Bound). All (RaisedBelow b) o.ends) (sym h.lower_is) (raised_in (At (objective_start m)) o.ends) in
     spent_apart m options.gap options.conflicts o.upper o.lower _ (h.each i d l) (raised i d l) apart
 
 pub good_outcome : (m : CpModel) (options : Options) (o : Outcome) → CameTo m options o.upper o.lower o.ends → o.status ≡ status_of o.upper o.lower options.gap → o.solution ≡ best_of m o.ends → o.core ≡ core_of o.ends
-    → 1 ≤ options.workers → IsGoodOutcome m options o
-good_outcome m options o h status solution core some = record {
+    → 1 ≤ options.workers → is_some (log_of o.ends) ≡ options.log → IfSome (log_of o.ends) (IsLogOfOutcome m o) → IsGoodOutcome m options o
+good_outcome m options o h status solution core some logged log = record {
   workers = h.kinds;
   sums = All-weaker (EndedWithin m options.gap options.conflicts o.upper o.lower) (λ (e : Ending). HasSums e.kind m e.defs) (λ e k. k.sums) o.ends h.each;
   branchers = h.goes;
@@ -194,6 +195,8 @@ good_outcome m options o h status solution core some = record {
   decides = decides m options o some h.kinds
       (All-weaker (EndedWithin m options.gap options.conflicts o.upper o.lower) (λ (e : Ending). HasSums e.kind m e.defs) (λ e k. k.sums) o.ends h.each)
       h.goes status (apart_parts m options o h);
+  logged = logged;
+  log = log;
 }
 
 -- ---- the first of the best solutions

@@ -1,5 +1,5 @@
 -- Seats at the shared tables, before workers search there and after it, and what the seats knew together.
-use Rattle.std.specs.Prelude.{◌≡◌, ◌↔◌, ℕ, ◌+◌, ◌<◌, Bool, IsTrue, IfSome, length, List, All, slice_index_or, map}
+use Rattle.std.specs.Prelude.{◌≡◌, ◌↔◌, ℕ, ◌+◌, ◌<◌, Bool, false, IsTrue, Some, IfSome, length, List, All, slice_index_or, map}
 use Rattle.std.specs.List.{range_with_len}
 use Rattle.cps_model.specs.declared.bound.Bound.{Bound}
 use Rattle.cps_model.specs.declared.model.CpModel.{CpModel}
@@ -11,7 +11,9 @@ use Rattle.cps_port.specs.declared.part.BoundsPart.{BoundsPart}
 use Rattle.cps_port.specs.declared.part.Part.{Part}
 use Rattle.cps_port.specs.Parts.{newcomer}
 use Rattle.cps_port.specs.Order.{BoundLe, IsNoLower, raised_above}
+use Rattle.cps_model.specs.Statuses.{is_closed}
 use Rattle.cps_search.specs.declared.end.End.{End}
+use Rattle.cps_search.specs.declared.end.WorkerKind.TheVariants as kinds
 use Rattle.cps_search.specs.declared.end.Phase.TheVariants.{Over}
 use Rattle.cps_search.specs.Ends.{Ending, IsHonestEnding}
 use Rattle.cps_options.specs.declared.options.Options.{Options}
@@ -20,7 +22,7 @@ use Rattle.cps_search.specs.Following.{best_bound}
 use Rattle.cps_crew.specs.declared.seats.Seated.{Seated}
 use Rattle.cps_crew.specs.Ports.{part_of, SeatsStay}
 use Rattle.cps_crew.specs.Workers.{AnySearch, search_in, kind_in, ending_in, worker_kind, SearchesNear, BeginsAs, DrawsBy, HasEnded}
-use Rattle.cps_crew.specs.Outcomes.{GoesByModel, HasSums, best_of, greatest_raised}
+use Rattle.cps_crew.specs.Outcomes.{GoesByModel, HasSums, SpentOnlyIf, best_of, greatest_raised}
 
 -- ---- seats
 
@@ -66,7 +68,7 @@ pub record MayWork (suits : CpModel → Type 0) (m : CpModel) (o : Options) (poo
 pub record HasSearched (m : CpModel) (o : Options) (number rows : ℕ) (p q : Part) (e : Ending) : Type 0 where
   pub first : AnySearch
   pub last : AnySearch
-  pub begins : BeginsAs m o.gap o.conflicts first
+  pub begins : BeginsAs m o first
   pub draws : DrawsBy o.seed number first
   pub kind : kind_in last ≡ worker_kind number
   pub ended : HasEnded rows first last p q
@@ -81,6 +83,12 @@ pub record Worked (m : CpModel) (o : Options) (a b : Seated) : Type 0 where
 
 -- ---- workers that have ended
 
+-- the last look of an actor showed that the bounds had not met
+pub record LastSawOpen (gap : ℕ) (q : BoundsPart) : Type 0 where
+  pub lower : Bound
+  pub saw_lower : q.saw_lower ≡ Some lower
+  pub open_yet : is_closed lower q.saw_upper gap ≡ false
+
 -- the worker of this number ended honestly, by its guidance, its cores or its rounds
 pub record IsHonestlyDone (m : CpModel) (o : Options) (number : ℕ) (q : BoundsPart) (s : AnySearch) : Type 0 where
   pub end : End
@@ -88,6 +96,7 @@ pub record IsHonestlyDone (m : CpModel) (o : Options) (number : ℕ) (q : Bounds
   pub honest : IsHonestEnding m o.gap o.conflicts q (ending_in s end)
   pub sums : HasSums (kind_in s) m (search_in s).instance.defs
   pub goes : GoesByModel m o number (ending_in s end)
+  pub looked : kind_in s ≡ kinds.Fixed → SpentOnlyIf (LastSawOpen o.gap q) end
 
 -- the worker of this number as it is seen after it ended honestly
 pub record IsHonestEnd (m : CpModel) (o : Options) (q : BoundsPart) (number : ℕ) (e : Ending) : Type 0 where

@@ -7,6 +7,10 @@ use Rattle.cps_search.specs.Enough.{enough}
 use Rattle.cps_crew.specs.declared.outcome.Outcome.{Outcome}
 use Rattle.cps_crew.specs.Workers.{IsFirstInstance}
 
+-- which solution is best within the gap is known, or that there is none
+abbrev pub IsDecided : Outcome → Type 0
+IsDecided o = (o.status ≡ Optimal) ⊎ (o.status ≡ Infeasible)
+
 -- So many conflicts are enough for an instance of the model with the sums that the model writes alone. There is such an
 -- instance, and each has this number, so that the model alone determines it.
 pub record IsEnoughFor (m : CpModel) (number : ℕ) : Type 0 where
@@ -19,4 +23,4 @@ pub record IsEnoughFor (m : CpModel) (number : ℕ) : Type 0 where
 pub record DecidesWhereEnough (m : CpModel) (conflicts : ℕ) (o : Outcome) : Type 0 where
   pub number : ℕ
   pub is_enough : IsEnoughFor m number
-  pub decides : number ≤ conflicts → (o.status ≡ Optimal) ⊎ (o.status ≡ Infeasible)
+  pub decides : number ≤ conflicts → IsDecided o

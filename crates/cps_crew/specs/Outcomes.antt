@@ -1,5 +1,5 @@
 -- What the outcome of a search says of its model.
-use Rattle.std.specs.Prelude.{◌≡◌, ◌<◌, ◌≤◌, ⊤, ℕ, false, if◌then◌else◌, ℤ, int_lt, Option, Some, None, IfSome, List, [], ◌∷◌, ◌++◌, length, slice_index_or, map, All}
+use Rattle.std.specs.Prelude.{◌≡◌, ◌<◌, ◌≤◌, ⊤, ℕ, false, if◌then◌else◌, ℤ, int_lt, Option, Some, None, IfSome, IsTrue, is_some, List, [], ◌∷◌, ◌++◌, length, slice_index_or, map, All}
 use Rattle.std.specs.List.{range_with_len}
 use Rattle.rand_pcg.specs.Lcg.{Lcg}
 use Rattle.cps_model.specs.declared.model.CpModel.{CpModel}
@@ -29,7 +29,9 @@ use Rattle.cps_search.specs.Searches.{Search, IsHonestJournal, IsItemAbove, lear
 use Rattle.cps_search.specs.Ends.{Ending, IsHonestEnding, ending, round_count}
 use Rattle.cps_search.specs.Following.{best_bound}
 use Rattle.cps_search.specs.Guided.{IsGuidedBy, RunsBy}
-use Rattle.cps_search.specs.Moves.{fresh}
+use Rattle.cps_tracer.specs.Traced.{Traced}
+use Rattle.cps_search.specs.Logged.{IsBlankLog}
+use Rattle.cps_search.specs.Moves.{fresh, with_log}
 use Rattle.cps_branch.specs.declared.guidance.Guidance.{Guidance}
 use Rattle.cps_branch.specs.Guidances.{Branching, IsIdle, guidance_of}
 use Rattle.cps_core_guided.specs.Reforming.{CoreSearch}
@@ -38,8 +40,9 @@ use Rattle.cps_neighbourhood.specs.Drawing.{draws_of}
 use Rattle.cps_neighbourhood.specs.Nears.{Near, BeginsNear, NearRunsInTurns}
 use Rattle.cps_options.specs.declared.options.Options.{Options}
 use Rattle.cps_crew.specs.declared.outcome.Outcome.{Outcome}
-use Rattle.cps_crew.specs.Workers.{worker_kind, near_stream, BeginsByCores, RunsByCores}
+use Rattle.cps_crew.specs.Workers.{worker_kind, keeps_log, near_stream, BeginsByCores, RunsByCores}
 use Rattle.cps_crew.specs.Deciding.{DecidesWhereEnough}
+use Rattle.cps_crew.specs.Logs.{log_of, IsLogOfOutcome}
 
 -- the kinds of the workers by number
 abbrev pub kinds_of : ℕ → List WorkerKind
@@ -118,15 +121,18 @@ DidItsPart m conflicts upper e = DidItsPartAs e.kind m conflicts upper e
 
 -- ---- what is seen of a worker that began with nothing known, at a board with all its rows
 
--- A worker that ended is seen as a run leaves it whose brancher has this guidance and had heard nothing.
+-- A worker that ended is seen as a run leaves it whose brancher has this guidance and had heard nothing, and in whose
+-- log, if it kept one, nothing was written.
 pub record IsEndOfRun (p : Problem) (gap budget : ℕ) (guidance : Guidance) (e : Ending) : Type 0 where
+  pub log : Option Traced
+  pub blank : IfSome log (IsBlankLog p)
   pub first : Branching
   pub idle : IsIdle first
   pub guided : guidance_of first ≡ guidance
   pub last : Branching
   pub done : Search
   pub after : Part
-  pub runs : RunsBy most_rows (fresh p gap (Some budget), first) (done, last) newcomer after e.end
+  pub runs : RunsBy most_rows (with_log log (fresh p gap (Some budget)), first) (done, last) newcomer after e.end
   pub seen : e ≡ ending e.kind (Some guidance) e.end done
 
 -- A neighbourhood worker that ended is seen as turns in rounds leave it, if they began with the model's hint and with
@@ -173,6 +179,8 @@ pub record GoesByModel (m : CpModel) (options : Options) (number : ℕ) (e : End
   pub cores : e.kind ≡ kinds.CoreGuided → IsEndOfCores m options.gap options.conflicts e
   pub rounds : e.kind ≡ kinds.Near
       → IsEndOfRounds instance options.gap options.conflicts (draws_of options.seed (near_stream number)) e
+  -- the fixed worker kept a log where one was asked for
+  pub logs : is_some e.log ≡ keeps_log e.kind options.log
 
 pub record IsGoodOutcome (m : CpModel) (options : Options) (o : Outcome) : Type 0 where
   -- each worker ended, and is of the kind that its number says, with the sums that the model writes and, but for a
@@ -202,6 +210,21 @@ pub record IsGoodOutcome (m : CpModel) (options : Options) (o : Outcome) : Type 
   pub spent : is_closed o.lower o.upper options.gap ≡ false → All (DidItsPart m options.conflicts o.upper) o.ends
   -- the first worker never spends a budget that is enough
   pub decides : DecidesWhereEnough m options.conflicts o
+  -- a log was kept where it was asked for, and what it says is so
+  pub logged : is_some (log_of o.ends) ≡ options.log
+  pub log : IfSome (log_of o.ends) (IsLogOfOutcome m o)
+
+-- a worker spent its budget only where this is so
+abbrev pub SpentOnlyIf : Type 0 → End → Type 0
+SpentOnlyIf P Exhausted = ⊤
+SpentOnlyIf P SawClosed = ⊤
+SpentOnlyIf P (Spent clause below) = P
+SpentOnlyIf P RoundsDone = ⊤
+
+-- the first worker spent its budget only where this is so
+abbrev pub FirstSpentOnlyIf : Type 0 → List Ending → Type 0
+FirstSpentOnlyIf P [] = ⊤
+FirstSpentOnlyIf P (e ∷ es) = SpentOnlyIf P e.end
 
 -- A worker ended honestly, and saw nothing better than these two bounds.
 pub record EndedWithin (m : CpModel) (gap conflicts : ℕ) (upper lower : Bound) (e : Ending) : Type 0 where
@@ -212,7 +235,7 @@ pub record EndedWithin (m : CpModel) (gap conflicts : ℕ) (upper lower : Bound)
   pub below : IsNoLower part.saw_lower lower
 
 -- What all workers came to: the words are what they found and raised, and each of them went by the model and ended
--- within the words.
+-- within the words. The worker that keeps a log spent its budget only where the words had not met.
 pub record CameTo (m : CpModel) (options : Options) (upper lower : Bound) (ends : List Ending) : Type 0 where
   pub kinds : map (λ (e : Ending). e.kind) ends ≡ kinds_of options.workers
   pub upper_is : upper ≡ best_bound m (best_of m ends)
@@ -220,3 +243,4 @@ pub record CameTo (m : CpModel) (options : Options) (upper lower : Bound) (ends 
   pub floor : IsLowerBound m lower
   pub each : All (EndedWithin m options.gap options.conflicts upper lower) ends
   pub goes : (i : ℕ) (d : Ending) → i < length ends → GoesByModel m options i (slice_index_or ends i d)
+  pub open_yet : IsTrue options.log → FirstSpentOnlyIf (is_closed lower upper options.gap ≡ false) ends

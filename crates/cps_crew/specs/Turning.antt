@@ -24,7 +24,7 @@ use Rattle.cps_crew.specs.Crews.{IsHonestlyDone}
 -- the worker of this number, which may take a turn: it knew nothing at first, and took its turns so far
 pub record AtWork (m : CpModel) (o : Options) (number : ℕ) (s : AnySearch) (q : Part) : Type 0 where
   pub first : AnySearch
-  pub begins : BeginsAs m o.gap o.conflicts first
+  pub begins : BeginsAs m o first
   pub draws : DrawsBy o.seed number first
   pub turns : TakesTurnsAs most_rows first s newcomer q
   pub running : IsOver (search_in s).phase → ⊥
@@ -40,15 +40,14 @@ module _ {W : Type 0} (known : W → AnySearch) where
     pub each : (i : ℕ) (d : Turning W) → i < length crew → IsTurning m o c i (slice_index_or crew i d)
 
   -- the worker of this number, which knows nothing yet; where it draws, it does so by the seed and its number
-  pub record IsFresh (m : CpModel) (gap conflicts seed number : ℕ) (w : Turning W) : Type 0 where
-    pub begins : BeginsAs m gap conflicts (known w.worker)
+  pub record IsFresh (m : CpModel) (o : Options) (number : ℕ) (w : Turning W) : Type 0 where
+    pub begins : BeginsAs m o (known w.worker)
     pub kind : kind_in (known w.worker) ≡ worker_kind number
-    pub draws : DrawsBy seed number (known w.worker)
+    pub draws : DrawsBy o.seed number (known w.worker)
     pub not_over : w.over ≡ false
 
-  pub record AreFresh (m : CpModel) (gap conflicts seed : ℕ) (crew : List (Turning W)) : Type 0 where
-    pub each : (i : ℕ) (d : Turning W) → i < length crew
-        → IsFresh m gap conflicts seed i (slice_index_or crew i d)
+  pub record AreFresh (m : CpModel) (o : Options) (crew : List (Turning W)) : Type 0 where
+    pub each : (i : ℕ) (d : Turning W) → i < length crew → IsFresh m o i (slice_index_or crew i d)
 
 module _ {W : Type 0} where
   abbrev pub one_at_work : Turning W → ℕ
@@ -108,7 +107,7 @@ module _ {W : Type 0} (known : W → AnySearch) where
   pub record IsDrawnBy (m : CpModel) (options : Options) (rows : ℕ) (es : List Ending) : Type 0 where
     pub crew : List (Turning W)
     pub count : length crew ≡ options.workers
-    pub begins : AreFresh known m options.gap options.conflicts options.seed crew
+    pub begins : AreFresh known m options crew
     pub core : Shared
     pub last : List (Turning W)
     pub words : Lcg

@@ -1,6 +1,6 @@
 -- Workers of several kinds, seen as searches: one with a brancher, one that goes by cores, or one that searches near
 -- solutions in rounds.
-use Rattle.std.specs.Prelude.{◌≡◌, ◌⊎◌, ⊤, ℕ, ◌+◌, ◌<◌, ◌%◌, ◌==◌, max, nat_lt, if◌then◌else◌, ℤ, Bool, true, Option, Some, None, List, length, is_some}
+use Rattle.std.specs.Prelude.{◌≡◌, ◌⊎◌, ⊤, ℕ, ◌+◌, ◌<◌, ◌%◌, ◌==◌, max, nat_lt, if◌then◌else◌, ℤ, Bool, true, false, Option, Some, None, IfSome, List, length, is_some}
 use Rattle.rand_pcg.specs.Lcg.{Lcg}
 use Rattle.cps_model.specs.declared.model.CpModel.{CpModel}
 use Rattle.cps_model.specs.Solutions.{IsSolution}
@@ -13,7 +13,10 @@ use Rattle.cps_search.specs.declared.end.WorkerKind.TheVariants as kinds
 use Rattle.cps_branch.specs.declared.guidance.Guidance.{Guidance}
 use Rattle.cps_search.specs.declared.turn.Turn.{Turn}
 use Rattle.cps_search.specs.Searches.{Search, IsSoundSearch}
-use Rattle.cps_search.specs.Moves.{fresh}
+use Rattle.cps_tracer.specs.Traced.{Traced}
+use Rattle.cps_options.specs.declared.options.Options.{Options}
+use Rattle.cps_search.specs.Logged.{IsBlankLog}
+use Rattle.cps_search.specs.Moves.{fresh, with_log}
 use Rattle.cps_search.specs.Turns.{FoundOne, SameBest}
 use Rattle.cps_search.specs.Guided.{IsGuidedBy}
 use Rattle.cps_branch.specs.Guidances.{Branching, ChoosesAs, HearsAs, StaysAs, IsIdle, guidance_of}
@@ -81,16 +84,25 @@ pub record IsFirstInstance (m : CpModel) (p : Problem) : Type 0 where
   pub model : p.model ≡ m
   pub sums : p.defs ≡ model_sums m
 
--- a search of the model that begins
-pub record Begins (m : CpModel) (gap conflicts : ℕ) (s : Search) : Type 0 where
+-- a search of the model that begins, with a log in which nothing is written where one is asked for
+pub record Begins (m : CpModel) (gap conflicts : ℕ) (logs : Bool) (s : Search) : Type 0 where
   pub instance : Problem
   pub first : IsFirstInstance m instance
-  pub is : s ≡ fresh instance gap (Some conflicts)
+  pub log : Option Traced
+  pub blank : IfSome log (IsBlankLog instance)
+  pub asked : is_some log ≡ logs
+  pub is : s ≡ with_log log (fresh instance gap (Some conflicts))
+
+-- of the kinds of workers the fixed one keeps a log where one is asked for
+abbrev pub keeps_log : WorkerKind → Bool → Bool
+keeps_log kinds.Fixed asked = asked
+keeps_log kinds.Activity asked = false
+keeps_log kinds.CoreGuided asked = false
+keeps_log kinds.Near asked = false
 
 -- one of a kind with a brancher, which goes by what the model says and has heard nothing yet
-pub record BeginsGuided (m : CpModel) (gap conflicts : ℕ) (kind : WorkerKind) (b : Branching) (s : Search)
-    : Type 0 where
-  pub begins : Begins m gap conflicts s
+pub record BeginsGuided (m : CpModel) (o : Options) (kind : WorkerKind) (b : Branching) (s : Search) : Type 0 where
+  pub begins : Begins m o.gap o.conflicts (keeps_log kind o.log) s
   pub guided : HasBrancher kind
   pub guide : IsGuidedBy kind s.instance (Some (guidance_of b))
   pub idle : IsIdle b
@@ -114,10 +126,10 @@ pub record BeginsRounds (m : CpModel) (gap conflicts : ℕ) (n : Near) : Type 0 
   pub draws : Lcg
   pub is : BeginsNear instance gap conflicts draws n
 
-abbrev pub BeginsAs : CpModel → ℕ → ℕ → AnySearch → Type 0
-BeginsAs m gap conflicts (by_brancher kind b s) = BeginsGuided m gap conflicts kind b s
-BeginsAs m gap conflicts (by_cores b s) = BeginsByCores m gap conflicts b s
-BeginsAs m gap conflicts (in_rounds n) = BeginsRounds m gap conflicts n
+abbrev pub BeginsAs : CpModel → Options → AnySearch → Type 0
+BeginsAs m o (by_brancher kind b s) = BeginsGuided m o kind b s
+BeginsAs m o (by_cores b s) = BeginsByCores m o.gap o.conflicts b s
+BeginsAs m o (in_rounds n) = BeginsRounds m o.gap o.conflicts n
 
 -- the stream of the seed from which the worker of this number draws; which worker takes a turn is drawn from stream 0
 abbrev pub near_stream : ℕ → ℕ

@@ -1,7 +1,8 @@
 //! The outcome of workers that ended, from the bounds that they left and the end of each.
-ghost use Rattle.std.specs.Prelude.{◌≡◌, ◌≤◌, ℤ, List, All, IfOk, IfSome, IsTrue, false};
+ghost use Rattle.std.specs.Prelude.{◌≡◌, ℤ, List, All, IfOk, IfSome, IsTrue, false};
 ghost use Rattle.cps_model.specs.Statuses.{status_of};
 ghost use Rattle.cps_model.specs.Solutions.{IsSolution};
+ghost use Rattle.cps_options.specs.Ranges.{AreInRange};
 ghost use Rattle.cps_search.specs.Following.{best_bound};
 ghost use Rattle.cps_crew.specs.Outcomes.{IsGoodOutcome, CameTo, best_of, core_if, core_of};
 
@@ -80,7 +81,7 @@ pub fn outcome_of(
     options: &Options,
     reached: Reached,
 ) -> Result<Outcome, AllocError>
-    requires some { 1 ≤ options.now.workers }
+    requires range { AreInRange options.now }
     requires came { CameTo model.now options.now reached.upper reached.lower reached.ends.items }
     ensures good { IfOk result (IsGoodOutcome model.now options.now) }
     ensures ends { IfOk result (λ o. o.ends ≡ reached.ends.items) }

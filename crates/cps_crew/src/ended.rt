@@ -3,6 +3,7 @@ ghost use Rattle.std.specs.Prelude.{◌≡◌, Some, IfSome, IsNone};
 
 use cps_clauses::Journal;
 use cps_core_guided::CoreEnded;
+use cps_log::LogItem;
 use cps_model::Bound;
 use cps_search::{End, Ended};
 use std::marker::Model;
@@ -110,6 +111,17 @@ impl AnyEnded {
         match &self.finished {
             Finished::Plain(ended) => ended.core(),
             Finished::Core(ended) => ended.core(),
+        }
+    }
+
+    /// The log that it kept; a core-guided worker keeps none.
+    pub fn log(&self) -> Option<&[LogItem]>
+        ensures none { IsNone result → IsNone self.now.log }
+        ensures some { IfSome result (λ items. self.now.log ≡ Some items.now) }
+    {
+        match &self.finished {
+            Finished::Plain(ended) => ended.log(),
+            Finished::Core(ended) => ended.log(),
         }
     }
 }

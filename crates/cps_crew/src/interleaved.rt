@@ -48,8 +48,7 @@ fn crew_of<'a, W: Recruit<'a>>(
     requires range { AreInRange options.now }
     requires suits { W.suits model.now }
     ensures count { IfOk result (λ crew. vec_len crew ≡ options.now.workers) }
-    ensures each { IfOk result (λ crew.
-        AreFresh W.known model.entry.now options.now.gap options.now.conflicts options.now.seed crew.items) }
+    ensures each { IfOk result (λ crew. AreFresh W.known model.entry.now options.now crew.items) }
 {
     let mut crew = Vec::new(alloc);
     for number in 0..options.workers {

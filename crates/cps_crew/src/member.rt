@@ -69,8 +69,7 @@ pub trait Recruit<'a>: Member {
     ) -> Result<Self, AllocError>
         requires range { AreInRange options.now }
         requires suits { suits model.now }
-        ensures begins { IfOk result (λ worker. BeginsAs model.entry.now options.now.gap options.now.conflicts
-            (Self.known worker)) }
+        ensures begins { IfOk result (λ worker. BeginsAs model.entry.now options.now (Self.known worker)) }
         ensures handed { IfOk result (λ worker. Self.handed worker ≡ 0) }
         ensures kind { IfOk result (λ worker. kind_in (Self.known worker) ≡ worker_kind number) }
         ensures draws { IfOk result (λ worker. DrawsBy options.now.seed number (Self.known worker)) };

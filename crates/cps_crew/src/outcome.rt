@@ -1,5 +1,9 @@
 //! What a search came to.
+ghost use Rattle.std.specs.Prelude.{◌≡◌, Some, IfSome, IsNone};
+ghost use Rattle.cps_crew.specs.Logs.{log_of};
+
 use crate::ended::AnyEnded;
+use cps_log::LogItem;
 use cps_model::{Bound, Ints, Listed, Refs, Status};
 
 /// What the workers found, with the bounds that they reached on the objective.
@@ -17,6 +21,16 @@ pub struct Outcome {
     pub core: Refs,
     /// How each worker ended, by number.
     pub ends: Listed<AnyEnded>,
+}
+
+impl Outcome {
+    /// The log of the proof, if one was kept.
+    pub fn log(&self) -> Option<&[LogItem]>
+        ensures none { IsNone result → IsNone (log_of self.now.ends) }
+        ensures some { IfSome result (λ items. log_of self.now.ends ≡ Some items.now) }
+    {
+        self.ends.as_slice().first()?.log()
+    }
 }
 
 /// How the workers ended, by number, and the bounds that they left.

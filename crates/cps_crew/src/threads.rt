@@ -4,7 +4,7 @@
 //! split back knows that the final bounds are exactly what the workers offered and raised, so the outcome is made from
 //! that pair. A worker that ran out of memory ends the run without an outcome, since nothing is known of how its search
 //! ended.
-ghost use Rattle.std.specs.Prelude.{◌≡◌, ◌+◌, ◌-◌, ◌/◌, ◌≤◌, vec_len, All, IfOk, OnOk, None};
+ghost use Rattle.std.specs.Prelude.{◌≡◌, ◌+◌, ◌-◌, ◌/◌, ◌≤◌, vec_len, All, IfOk, OnOk, None, false};
 ghost use Rattle.cps_model.specs.declared.model.CpModel.{CpModel};
 ghost use Rattle.cps_port.specs.Parts.{newcomer};
 ghost use Rattle.cps_port.specs.Totals.{total};
@@ -109,12 +109,14 @@ fn gather<'t>(
 }
 
 /// Solves a model: `options.workers` workers search in threads until the bounds meet, or each has spent its budget or
-/// done its rounds. Each passes the gate before it begins. If a worker ran out of memory there is no outcome.
+/// done its rounds. Each passes the gate before it begins. If a worker ran out of memory there is no outcome. No log is
+/// kept.
 pub fn solve_in_threads<T: Recruiter + Sync, R: Threads + Wait + Sync, G: Gate + Sync>(
     host: &Host<'_, R, G>,
     brief: &Brief<'_, T>,
 ) -> Result<Outcome, AllocError>
     requires range { AreInRange brief.now.options.now }
+    requires no_log { brief.now.options.now.log ≡ false }
     requires suits { T.suits brief.now.model.now }
     ensures { IfOk result (IsGoodOutcome brief.now.model.now brief.now.options.now) }
 {

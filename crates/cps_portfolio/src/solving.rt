@@ -1,5 +1,5 @@
 //! The search of a model by workers of all kinds.
-ghost use Rattle.std.specs.Prelude.{IfOk};
+ghost use Rattle.std.specs.Prelude.{◌≡◌, false, IfOk};
 ghost use Rattle.cps_options.specs.Ranges.{AreInRange};
 ghost use Rattle.cps_port.specs.Entries.{most_rows};
 ghost use Rattle.cps_kinds.specs.Kinds.{AreAllPropagated};
@@ -16,7 +16,8 @@ use std::sync::Wait;
 use std::thread::Threads;
 
 /// Solves a model: `options.workers` workers search in threads until the bounds meet, or each has spent its budget or
-/// done its rounds. Each passes the gate before it begins. If a worker ran out of memory there is no outcome.
+/// done its rounds. Each passes the gate before it begins. If a worker ran out of memory there is no outcome. A worker
+/// that keeps a log takes turns instead (`solve_interleaved`).
 pub fn solve<R: Threads + Wait + Sync, G: Gate + Sync>(
     rt: &R,
     alloc: Global,
@@ -25,6 +26,7 @@ pub fn solve<R: Threads + Wait + Sync, G: Gate + Sync>(
     gate: &G,
 ) -> Result<Outcome, AllocError>
     requires range { AreInRange options.now }
+    requires no_log { options.now.log ≡ false }
     requires kinds { AreAllPropagated model.now }
     ensures { IfOk result (IsGoodOutcome model.now options.now) }
 {

@@ -12,6 +12,7 @@ ghost use Rattle.cps_search.specs.Keeps.{Keeps};
 ghost use Rattle.cps_search.specs.Ends.{IsOver, end_of};
 ghost use Rattle.cps_core_guided.specs.Reforming.{whole};
 ghost use Rattle.cps_neighbourhood.specs.Drawing.{draws_of};
+ghost use Rattle.cps_portfolio.specs.Workers.{IsBlankOf};
 ghost use Rattle.cps_crew.specs.Workers.{Begins, BeginsCores, BeginsRounds, IsAimed, TurnedBy, TurnedByCores, TurnedNear, PutsFound, aim_by};
 ghost use Rattle.cps_pool.specs.Pools.{with_pushed};
 
@@ -25,6 +26,7 @@ use cps_pool::Pool;
 use cps_port::Port;
 use cps_propagate::{Defining, Propagator};
 use cps_search::{ActivityBrancher, Brancher, FixedBrancher, Turn, Worker, WorkerKind};
+use cps_tracer::Tracer;
 use cps_validate::ValidModel;
 use std::alloc::{AllocError, Global};
 
@@ -61,22 +63,46 @@ pub struct AimedWorker<'a, P: Propagator> {
     pub handed: usize,
 }
 
-/// A worker that follows the model's strategies, and then takes the variables in order.
+/// A log of a model in which nothing is written, where one is asked for.
+fn blank_log<'a>(
+    alloc: Global,
+    model: &'a ValidModel,
+    asked: bool,
+) -> Result<Option<Tracer<'a>>, AllocError>
+    ensures asked { IfOk result (λ log. is_some log ≡ asked) }
+    ensures blank { IfOk result (λ log. IfSome log (IsBlankOf model.entry.now)) }
+{
+    if asked {
+        Ok(Some(Tracer::new(alloc, model)?))
+    } else {
+        Ok(None)
+    }
+}
+
+/// A worker that follows the model's strategies, and then takes the variables in order. It keeps a log where the
+/// options ask for one.
 fn fixed_worker<'a>(
     alloc: Global,
     model: &'a ValidModel,
-    conflicts: u64,
-    gap: u64,
+    options: &Options,
 ) -> Result<Worker<'a, AnyPropagator, FixedBrancher>, AllocError>
-    requires budget { conflicts ≤ 10 ^ 9 }
+    requires range { AreInRange options.now }
     requires kinds { AreAllPropagated model.now }
-    ensures begins { IfOk result (λ worker. Begins model.entry.now gap conflicts worker.0) }
+    ensures begins { IfOk result (λ worker.
+        Begins model.entry.now options.now.gap options.now.conflicts options.now.log worker.0) }
     ensures plan { IfOk result (λ worker. IsPlanOf worker.0.instance worker.1.plan) }
 {
+    let Options {
+        conflicts,
+        gap,
+        log,
+        ..
+    } = *options;
     let instance = Instance::of(alloc, model)?;
     let engine = engine_of(alloc, &instance)?;
     let brancher = FixedBrancher::of(alloc, &instance)?;
-    Worker::new(alloc, instance, engine, brancher, conflicts, gap)
+    let log = blank_log(alloc, model, log)?;
+    Worker::new(alloc, instance, engine, brancher, conflicts, gap, log)
 }
 
 /// A worker that takes the variable with the greatest activity.
@@ -88,14 +114,14 @@ fn activity_worker<'a>(
 ) -> Result<Worker<'a, AnyPropagator, ActivityBrancher>, AllocError>
     requires budget { conflicts ≤ 10 ^ 9 }
     requires kinds { AreAllPropagated model.now }
-    ensures begins { IfOk result (λ worker. Begins model.entry.now gap conflicts worker.0) }
+    ensures begins { IfOk result (λ worker. Begins model.entry.now gap conflicts false worker.0) }
     ensures hints { IfOk result (λ worker. AreHintsOf worker.0.instance worker.1.hints) }
     ensures idle { IfOk result (λ worker. IsIdleByActivity worker.1) }
 {
     let instance = Instance::of(alloc, model)?;
     let engine = engine_of(alloc, &instance)?;
     let brancher = ActivityBrancher::of(alloc, &instance)?;
-    Worker::new(alloc, instance, engine, brancher, conflicts, gap)
+    Worker::new(alloc, instance, engine, brancher, conflicts, gap, None)
 }
 
 /// A worker that raises the lower bound core by core.
@@ -269,7 +295,7 @@ impl<'a> Recruit<'a> for AnyWorker<'a> {
     ) -> Result<Self, AllocError> {
         let Options { conflicts, gap, .. } = *options;
         match kind_of(number) {
-            WorkerKind::Fixed => Ok(AnyWorker::Fixed(fixed_worker(alloc, model, conflicts, gap)?)),
+            WorkerKind::Fixed => Ok(AnyWorker::Fixed(fixed_worker(alloc, model, options)?)),
             WorkerKind::Activity => Ok(AnyWorker::Activity(activity_worker(
                 alloc, model, conflicts, gap,
             )?)),

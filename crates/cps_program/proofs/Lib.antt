@@ -6,3 +6,4 @@ pub mod Limits
 pub mod Outcomes
 pub mod Recipes
 pub mod Verdicts
+pub mod Logs

@@ -59,7 +59,8 @@ generated_propagated m h =
     All-weaker (λ (c : Constraint). IsTrue (is_generated c.kind)) (λ (c : Constraint). is_propagated c.kind ≡ true) (λ c g. kind_propagated c.kind g) m.constraints h
 
 pub demo_in_range : (seed : ℕ) → AreInRange (demo_options seed)
-demo_in_range seed = record { some_worker = omega arith; workers = omega arith; conflicts = omega arith; gap = omega arith }
+demo_in_range seed =
+    record { some_worker = omega arith; workers = omega arith; conflicts = omega arith; gap = omega arith; log = λ on. absurd cc }
 
 -- the lines that are written are those of the outcome, which is good for the model that the words name
 pub demonstrated : (r : Recipe) (m : CpModel) (options : Options) (o : Outcome) (answer : Answer) → m ≡ model_of r → options ≡ demo_options r.seed → IsValid m

@@ -1,5 +1,5 @@
 -- What the program answers to a command line and an input: an exit status, an outcome and a text.
-use Rattle.std.specs.Prelude.{◌≡◌, ℕ, ◌+◌, ◌<◌, ◌≤◌, List, [], ◌∷◌, ◌++◌, length, codes, true, IsTrue, Some, None}
+use Rattle.std.specs.Prelude.{◌≡◌, ℕ, ◌+◌, ◌<◌, ◌≤◌, List, [], ◌∷◌, ◌++◌, length, codes, true, false, IsTrue, Some, None}
 use Rattle.cps_model.specs.declared.model.CpModel.{CpModel}
 use Rattle.cps_print.specs.declared.fault.Fault.{Fault}
 use Rattle.cps_print.specs.declared.fault.Fault.TheVariants.{TooLong}
@@ -25,9 +25,11 @@ use Rattle.cps_gen.specs.Families.{is_in_range}
 use Rattle.cps_gen.specs.Generated.{generated}
 use Rattle.cps_model.specs.Validity.{IsValid}
 use Rattle.cps_crew.specs.declared.outcome.Outcome.{Outcome}
+use Rattle.cps_crew.specs.Logs.{log_of}
 use Rattle.cps_crew.specs.Outcomes.{IsGoodOutcome}
 use Rattle.cps_portfolio.specs.Workers.{IsDrawnRun}
 use Rattle.cps_program.specs.Inputs.{most_bytes, HasFault, HasNo, IsInput, IsModelText}
+use Rattle.cps_program.specs.Logs.{log_section}
 use Rattle.cps_program.specs.Outcomes.{KeepsPromise}
 
 abbrev pub usage_text : List ℕ
@@ -46,13 +48,13 @@ pub record IsText (status : ℕ) (bytes : List ℕ) (answer : Answer) : Type 0 w
 abbrev pub response_of : Outcome → Response
 response_of o = record { status = o.status; solution = o.solution; lower = o.lower; core = o.core }
 
--- `solve` of a valid model: the response of an outcome that is good for the options, and where the workers take turns
--- it is that of the turns that the seed draws
+-- `solve` of a valid model: the response of an outcome that is good for the options, with the log of its proof where one
+-- is asked for; and where the workers take turns the outcome is that of the turns that the seed draws
 pub record Solves (options : Options) (m : CpModel) (answer : Answer) : Type 0 where
   pub found : Outcome
   pub exit : answer.exit ≡ 0
   pub outcome : answer.outcome ≡ Some found
-  pub text : answer.text ≡ response_text m (response_of found)
+  pub text : answer.text ≡ response_text m (response_of found) ++ log_section (log_of found.ends)
   pub good : IsGoodOutcome m options found
   pub promise : KeepsPromise m options found
   pub drawn : IsTrue options.interleave → IsDrawnRun m options 4096 found.ends
@@ -73,7 +75,8 @@ model_of r = generated r.family r.size r.seed
 -- the options of a demonstration: those of `solve` where nothing is said, but that the workers take turns that the seed
 -- draws
 abbrev pub demo_options : ℕ → Options
-demo_options seed = record { workers = 4; conflicts = 10000; seed = seed; interleave = true; gap = 0 }
+demo_options seed =
+    record { workers = 4; conflicts = 10000; seed = seed; interleave = true; gap = 0; log = false }
 
 -- `gen`: the canonical text of the model, which is valid
 pub record Generates (r : Recipe) (answer : Answer) : Type 0 where

@@ -1,6 +1,7 @@
 pub mod Inputs
 pub mod Reading
 pub mod Outcomes
+pub mod Logs
 pub mod Answers
 pub mod Checks
 pub mod Runs

@@ -1,12 +1,22 @@
 -- What a run did with its source and its sink.
-use Rattle.std.specs.Prelude.{◌≡◌, ◌≢◌, ◌==◌, ◌||◌, ◌⊎◌, ℕ, ◌+◌, ◌≤◌, Bool, List, drop, Option, Some, None, IfSome}
+use Rattle.std.specs.Prelude.{◌≡◌, ◌≢◌, ◌==◌, ◌||◌, ◌⊎◌, ℕ, ◌+◌, ◌≤◌, Bool, IsTrue, List, ◌++◌, drop, Option, Some, None, IfSome}
 use Rattle.std.specs.Io.KnownBytes.{Appends}
 use Rattle.cps_outer.specs.Transfers.{TakesPrefix}
 use Rattle.cps_program.specs.declared.answer.Answer.{Answer}
 use Rattle.cps_program.specs.declared.ran.Ran.{Ran}
 use Rattle.cps_print.specs.Verdicts.{refused_text}
-use Rattle.cps_program.specs.Inputs.{most_bytes}
-use Rattle.cps_program.specs.Answers.{IsAnswerTo}
+use Rattle.cps_model.specs.declared.model.CpModel.{CpModel}
+use Rattle.cps_print.specs.Responses.{response_text}
+use Rattle.cps_log.specs.declared.item.LogItem.{LogItem}
+use Rattle.cps_options.specs.declared.options.Options.{Options}
+use Rattle.cps_command.specs.declared.command.Command.TheVariants.{Solve}
+use Rattle.cps_command.specs.Lines.{CommandLine}
+use Rattle.cps_crew.specs.declared.outcome.Outcome.{Outcome}
+use Rattle.cps_crew.specs.Logs.{IsLogOfOutcome}
+use Rattle.cps_program.specs.Inputs.{most_bytes, IsInput}
+use Rattle.cps_program.specs.Answers.{IsAnswerTo, response_of}
+use Rattle.cps_program.specs.Logs.{log_lines}
+use Rattle.cps_program.specs.Outcomes.{KeepsPromise}
 use Rattle.cps_program.specs.Checks.{IsVerified, IsRefusedAtLine}
 
 -- an exit status with which no text is written: a read failed, or memory ran out
@@ -47,3 +57,21 @@ pub record GivesRefusal (left held_before held_after : Option (List ℕ)) : Type
   pub input : AreBytesLeft left bytes
   pub refused : IsRefusedAtLine bytes line
   pub text : Appends held_before held_after (refused_text line)
+
+-- the words are those of `solve` with these options, which ask for a log
+pub record IsLogLine (words : List (List ℕ)) (options : Options) : Type 0 where
+  pub line : CommandLine words (Solve options)
+  pub log : IsTrue options.log
+
+-- the input that was left is the text of a valid model, and the sink took a response that keeps its promise, with the log
+-- of its proof
+pub record GivesLog (options : Options) (left held_before held_after : Option (List ℕ)) : Type 0 where
+  pub bytes : List ℕ
+  pub input : AreBytesLeft left bytes
+  pub m : CpModel
+  pub is : IsInput bytes m
+  pub found : Outcome
+  pub promise : KeepsPromise m options found
+  pub items : List LogItem
+  pub log : IsLogOfOutcome m found items
+  pub text : Appends held_before held_after (response_text m (response_of found) ++ log_lines items)

@@ -2,31 +2,25 @@
 //!
 //! Each command that reads has a function that takes its model from the input and one that answers the model; the
 //! faults of an input have one answer for all commands, and so have words that are no command. The commands that
-//! generate a model are answered in `generation`, and `check` in `checking`. The text is complete before anything is
-//! written, so a run that runs out of memory writes nothing.
+//! generate a model are answered in `generation`, `solve` in `solving`, and `check` in `checking`. The text is complete
+//! before anything is written, so a run that runs out of memory writes nothing.
 ghost use Rattle.std.specs.Prelude.{◌≡◌, ◌≤◌, ℕ, List, IfOk, IsTrue, length, string_bytes};
 ghost use Rattle.cps_print.specs.Faults.{fault_text};
 ghost use Rattle.cps_print.specs.Models.{model_text};
 ghost use Rattle.cps_print.specs.ReadBack.{IsReadAs};
-ghost use Rattle.cps_print.specs.Responses.{HasShowableLimits};
-ghost use Rattle.cps_kinds.specs.Kinds.{AreAllPropagated};
-ghost use Rattle.cps_options.specs.Ranges.{AreInRange};
-ghost use Rattle.cps_crew.specs.Outcomes.{IsGoodOutcome};
-ghost use Rattle.cps_portfolio.specs.Workers.{IsDrawnRun};
 ghost use Rattle.cps_program.specs.Inputs.{most_bytes, IsModelText, IsInput};
-ghost use Rattle.cps_program.specs.Answers.{usage_text, valid_text, IsText, IsFaultText, Solves, Validates, Prints, AnswersInput, Does, IsCommandInRange};
+ghost use Rattle.cps_program.specs.Answers.{usage_text, valid_text, IsText, IsFaultText, Validates, Prints, AnswersInput, Does, IsCommandInRange};
 
 use crate::checking::check_input;
 use crate::exits::{BAD_INPUT, BAD_WORDS, DONE};
 use crate::generation::{demo_answer, gen_answer};
 use crate::input::{InputError, read_model, valid_model_of};
+use crate::solving::solve_input;
 use cps_command::Command;
 use cps_model::{CpModel, Text};
-use cps_options::Options;
 use cps_outer::{Gate, Host};
-use cps_portfolio::{Outcome, solve, solve_interleaved};
-use cps_print::{Fault, Response, fault_text, model_text, response_text};
-use cps_validate::ValidModel;
+use cps_portfolio::Outcome;
+use cps_print::{Fault, fault_text, model_text};
 use std::alloc::{AllocError, Global};
 use std::sync::Wait;
 use std::thread::Threads;
@@ -75,82 +69,6 @@ pub fn input_error_answer(alloc: Global, input_error: InputError) -> Result<Answ
     match input_error {
         InputError::Fault(fault) => fault_answer(alloc, &fault),
         InputError::OutOfMemory => Err(AllocError),
-    }
-}
-
-/// The outcome of workers that search a model in threads, or in turns if the options say so.
-fn search_outcome<R: Threads + Wait + Sync, G: Gate + Sync>(
-    host: &Host<'_, R, G>,
-    model: &ValidModel,
-    options: &Options,
-) -> Result<Outcome, AllocError>
-    requires range { AreInRange options.now }
-    requires kinds { AreAllPropagated model.now }
-    ensures good { IfOk result (IsGoodOutcome model.now options.now) }
-    ensures drawn { IsTrue options.now.interleave → IfOk result (λ o. IsDrawnRun model.now options.now 4096 o.ends) }
-{
-    if options.interleave {
-        solve_interleaved(host.alloc, model, options)
-    } else {
-        solve(host.rt, host.alloc, model, options, host.gate)
-    }
-}
-
-/// The answer of `solve` to a valid model. A response owns its solution and its core, so the outcome gives them to it
-/// and takes them back when the text is made.
-fn solve_answer<R: Threads + Wait + Sync, G: Gate + Sync>(
-    host: &Host<'_, R, G>,
-    model: &ValidModel,
-    options: &Options,
-) -> Result<Answer, AllocError>
-    requires showable { HasShowableLimits model.now.objective }
-    requires kinds { AreAllPropagated model.now }
-    requires range { AreInRange options.now }
-    ensures { IfOk result (Solves options.now model.now) }
-{
-    let Outcome {
-        status,
-        solution,
-        upper,
-        lower,
-        core,
-        ends,
-    } = search_outcome(host, model, options)?;
-    let response = Response {
-        status,
-        solution,
-        lower,
-        core,
-    };
-    let text = response_text(host.alloc, model.model(), &response)?;
-    let Response { solution, core, .. } = response;
-    Ok(Answer {
-        exit: DONE,
-        outcome: Some(Outcome {
-            status,
-            solution,
-            upper,
-            lower,
-            core,
-            ends,
-        }),
-        text: Text::from_string(text),
-    })
-}
-
-/// The answer of `solve` to an input that is not too long.
-fn solve_input<R: Threads + Wait + Sync, G: Gate + Sync>(
-    host: &Host<'_, R, G>,
-    options: &Options,
-    bytes: &[u8],
-) -> Result<Answer, AllocError>
-    requires short { length bytes.now ≤ most_bytes }
-    requires range { AreInRange options.now }
-    ensures { IfOk result (AnswersInput IsInput (Solves options.now) bytes.now) }
-{
-    match valid_model_of(host.alloc, bytes) {
-        Ok(model) => solve_answer(host, &model, options),
-        Err(input_error) => input_error_answer(host.alloc, input_error),
     }
 }
 

@@ -52,6 +52,7 @@ fn demo_options(seed: u64) -> Options
         seed,
         interleave: true,
         gap: 0,
+        log: false,
     }
 }
 

@@ -4,9 +4,10 @@ ghost use Rattle.std.specs.Io.KnownBytes.{Appends};
 ghost use Rattle.cps_outer.specs.Faults.{Rose};
 ghost use Rattle.cps_outer.specs.Transfers.{TakesPrefix};
 ghost use Rattle.cps_program.specs.Answers.{IsAnswerTo};
+ghost use Rattle.cps_options.specs.declared.options.Options.{Options as OptionsOf};
 ghost use Rattle.cps_command.specs.Lines.{texts_of, IsReadingLine, ReadsNothing};
 ghost use Rattle.cps_program.specs.Checks.{IsCheckLine, HasValidModel};
-ghost use Rattle.cps_program.specs.Runs.{is_silent, IsAnswerExit, AreBytesLeft, IsReadThrough, GivesOut, LeavesVerified, GivesRefusal};
+ghost use Rattle.cps_program.specs.Runs.{is_silent, IsAnswerExit, AreBytesLeft, IsReadThrough, GivesOut, IsLogLine, GivesLog, LeavesVerified, GivesRefusal};
 ghost use Rattle.cps_program.specs.declared.solve.Unanswered.TheVariants.{OutOfMemory};
 
 use crate::answer::{Answer, command_answer, fault_answer, usage_answer};
@@ -108,6 +109,12 @@ pub fn solve_main<R: Threads + Wait + Sync, S: Source, K: Sink, G: Gate + Sync>(
         ((result.outcome ≡ None) × (sink.new ≡ sink.old))
         (GivesOut (texts_of words.now) (S.left source.old) (K.held sink.old) (K.held sink.new) result) }
     ensures exits { result.exit ≤ 6 }
+
+    // `solve --log` with 0: the sink took a response with the log of its proof. What its items say is so, and the log is
+    // closed where the response is optimal or infeasible. So `check` can refuse it at a line of a constraint, the
+    // objective or a sum alone.
+    ensures logged { (options : OptionsOf) → IsLogLine (texts_of words.now) options → result.exit ≡ 0
+        → GivesLog options (S.left source.old) (K.held sink.old) (K.held sink.new) }
 
     // `check` with 0: the response that was left is accepted with its log, and so it is true of the model.
     ensures verified { IsCheckLine (texts_of words.now) → result.exit ≡ 0 → LeavesVerified (S.left source.old) }

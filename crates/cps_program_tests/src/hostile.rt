@@ -69,11 +69,18 @@ struct Written {
     has_outcome: bool,
 }
 
-static WRITTEN: [Written; 7] = [
+static WRITTEN: [Written; 8] = [
     Written {
         words: &["solve"],
         input: "",
         text: "status: OPTIMAL\n",
+        has_outcome: true,
+    },
+    // No objective below 0 is left, and so nothing.
+    Written {
+        words: &["solve", "--workers", "1", "--log"],
+        input: "",
+        text: "status: OPTIMAL\n%log\no\nl\n%end\n",
         has_outcome: true,
     },
     Written {

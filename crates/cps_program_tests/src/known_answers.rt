@@ -23,7 +23,7 @@ pub const PRODUCTION_TEXT: &str =
     "status: OPTIMAL\nsolution: 4\nsolution: 0\nobjective_value: 12\nbest_objective_bound: 12\n";
 
 /// Three variables of two values that are all different.
-const THREE_DIFFERENT: &str =
+pub const THREE_DIFFERENT: &str =
     "variables { domain: [0, 1] } variables { domain: [0, 1] } variables { domain: [0, 1] } constraints { \
     all_diff { exprs { vars: [0] coeffs: [1] } exprs { vars: [1] coeffs: [1] } exprs { vars: [2] coeffs: \
     [1] } } }";
@@ -122,7 +122,7 @@ pub static LINES: [Line; 10] = [
 ];
 
 /// Words behind the program's name that make no command line.
-pub static FAULTY_WORDS: [&[&str]; 18] = [
+pub static FAULTY_WORDS: [&[&str]; 20] = [
     &[],
     &["solve", "--workers", "0"],
     &["solve", "--workers", "17"],
@@ -137,6 +137,8 @@ pub static FAULTY_WORDS: [&[&str]; 18] = [
     &["check", "x"],
     &["check", "--log"],
     &["solve", "--log"],
+    &["solve", "--workers", "2", "--log"],
+    &["solve", "--workers", "1", "--gap", "1", "--log"],
     &["solves"],
     &["gen", "tour", "1", "5"],
     &["gen", "jobshop", "17", "5"],
@@ -155,7 +157,7 @@ pub struct Beginning {
 }
 
 /// What is held of texts of which no more is taken.
-pub static BEGINNINGS: [Beginning; 7] = [
+pub static BEGINNINGS: [Beginning; 8] = [
     Beginning {
         words: &["solve"],
         input: "",
@@ -164,6 +166,12 @@ pub static BEGINNINGS: [Beginning; 7] = [
     },
     Beginning {
         words: &["solve"],
+        input: "variables { domain: [0, 1] }",
+        held: "sta",
+        has_outcome: true,
+    },
+    Beginning {
+        words: &["solve", "--workers", "1", "--log"],
         input: "variables { domain: [0, 1] }",
         held: "sta",
         has_outcome: true,

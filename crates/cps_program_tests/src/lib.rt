@@ -12,6 +12,8 @@ mod hostile;
 #[cfg(test)]
 mod known_answers;
 #[cfg(test)]
+mod logs;
+#[cfg(test)]
 mod running;
 #[cfg(test)]
 mod workers;

@@ -31,6 +31,7 @@ const FOUR: Options = Options {
     seed: 3985,
     interleave: true,
     gap: 0,
+    log: false,
 };
 
 /// What each worker finds, by number: the least values, those of the hint, the best ones, and near those of the hint

@@ -27,12 +27,15 @@ pub fn ordered_worker_of<'a>(
 ) -> Result<Worker<'a, AnyPropagator, FixedBrancher>, AllocError>
     requires budget { conflicts ≤ 10 ^ 9 }
     requires kinds { AreAllPropagated model.now }
-    ensures { IfOk result (λ worker. Begins model.entry.now 0 conflicts worker.0) }
+    ensures begins { IfOk result (λ worker. Begins model.entry.now 0 conflicts false worker.0) }
+    ensures runs { IfOk result (λ worker. IsOver worker.0.phase → ⊥) }
+    ensures model { IfOk result (λ worker. worker.0.instance.model ≡ model.entry.now) }
+    ensures none_taken { IfOk result (λ worker. worker.0.imported ≡ 0) }
 {
     let instance = Instance::of(alloc, model)?;
     let engine = engine_of(alloc, &instance)?;
     let brancher = FixedBrancher::of(alloc, &instance)?;
-    Worker::new(alloc, instance, engine, brancher, conflicts, 0)
+    Worker::new(alloc, instance, engine, brancher, conflicts, 0, None)
 }
 
 /// A worker that takes variables by activity, and learns from so many conflicts.
@@ -43,12 +46,15 @@ pub fn active_worker_of<'a>(
 ) -> Result<Worker<'a, AnyPropagator, ActivityBrancher>, AllocError>
     requires budget { conflicts ≤ 10 ^ 9 }
     requires kinds { AreAllPropagated model.now }
-    ensures { IfOk result (λ worker. Begins model.entry.now 0 conflicts worker.0) }
+    ensures begins { IfOk result (λ worker. Begins model.entry.now 0 conflicts false worker.0) }
+    ensures runs { IfOk result (λ worker. IsOver worker.0.phase → ⊥) }
+    ensures model { IfOk result (λ worker. worker.0.instance.model ≡ model.entry.now) }
+    ensures none_taken { IfOk result (λ worker. worker.0.imported ≡ 0) }
 {
     let instance = Instance::of(alloc, model)?;
     let engine = engine_of(alloc, &instance)?;
     let brancher = ActivityBrancher::of(alloc, &instance)?;
-    Worker::new(alloc, instance, engine, brancher, conflicts, 0)
+    Worker::new(alloc, instance, engine, brancher, conflicts, 0, None)
 }
 
 /// What a turn was, and whether the worker has ended.

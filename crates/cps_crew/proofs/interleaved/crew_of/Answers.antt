@@ -15,9 +15,9 @@ loop-number-preserved g c =
     let xs : List (Turning _) = c.loop-number.crew.items in
     let e : c.push.new.self.items ≡ xs ++ x ∷ [] = c.in_ok-push.ensures.items in
     let len : length xs ≡ c.loop-number.number = omega (arith, i.count, c.loop-number.crew.ok.0) in
-    let one : IsFresh g.W.Member.known m o.gap o.conflicts o.seed c.loop-number.number x = record { begins = k.begins; kind = k.kind; draws = k.draws; not_over = refl } in
-    let all = each_push (IsFresh g.W.Member.known m o.gap o.conflicts o.seed) xs x i.each.each (subst (λ (j : ℕ). IsFresh g.W.Member.known m o.gap o.conflicts o.seed j x) (sym len) one) in
+    let one : IsFresh g.W.Member.known m o c.loop-number.number x = record { begins = k.begins; kind = k.kind; draws = k.draws; not_over = refl } in
+    let all = each_push (IsFresh g.W.Member.known m o) xs x i.each.each (subst (λ (j : ℕ). IsFresh g.W.Member.known m o j x) (sym len) one) in
     record {
       count = (let more = c.in_ok-push.ensures.len in omega (arith, i.count, more));
-      each = subst (λ (l : List (Turning _)). AreFresh g.W.Member.known m o.gap o.conflicts o.seed l) (sym e) (record { each = all });
+      each = subst (λ (l : List (Turning _)). AreFresh g.W.Member.known m o l) (sym e) (record { each = all });
     }

@@ -13,6 +13,8 @@ use Rattle.cps_crew.specs.Workers.{search_in, SearchesNear}
 use Rattle.cps_crew.specs.Outcomes.{CameTo}
 use Rattle.cps_crew.specs.Turning.{AreFresh, AreTurning, IsDrawnBy, TakesDrawnTurns, ended_of, words_of_seed}
 use Rattle.cps_crew.proofs.Crews.{written}
+use Rattle.cps_crew.proofs.AloneBounds.{SeesAll, first_sees}
+use Rattle.cps_crew.proofs.AloneTurns.{sees_turns}
 use Rattle.cps_crew.proofs.DrawnTurns.{all_fresh, first_rows, each_over, came_in_turns}
 use Rattle.cps_crew.proofs.interleaved.solve_in_turns.Goals as goal
 
@@ -23,7 +25,7 @@ take_turns-turns-requires-clause-crew g c =
     let core = c.in_ok-core.core in
     let first = c.in_ok-core.ensures.first in
     let model : core.model ≡ m = ap (λ (x : Shared). x.model) first in
-    let crew = subst (λ (l : List (Turning _)). AreFresh g.W.Member.known m o.gap o.conflicts o.seed l) (sym c.as_mut_slice.ensures.value) c.in_ok-crew.ensures.each in
+    let crew = subst (λ (l : List (Turning _)). AreFresh g.W.Member.known m o l) (sym c.as_mut_slice.ensures.value) c.in_ok-crew.ensures.each in
     subst (λ (x : CpModel). AreTurning g.W.Member.known x o core c.as_mut_slice.result.now) (sym model)
     (all_fresh g.W.Member.known m o o.workers most_rows core c.as_mut_slice.result.now first crew)
 
@@ -53,9 +55,6 @@ finish_all-requires g c =
     let t = c.in_ok-turns.ensures in
     subst (λ (l : List (Turning _)). All (λ (x : Turning _). IsOver (search_in (g.W.Member.known x.worker)).phase) l) (sym w) (each_over g.W.Member.known c.in_ok-core.core.model o c.take_turns-turns.new.port.core.now ys t.crew t.over)
 
-pub outcome_of-requires-clause-some : goal.outcome_of-requires-clause-some
-outcome_of-requires-clause-some g c = c.requires.range.some_worker
-
 pub outcome_of-requires-clause-came : goal.outcome_of-requires-clause-came
 outcome_of-requires-clause-came g c =
     let o = c.args.options.now in
@@ -74,7 +73,12 @@ outcome_of-requires-clause-came g c =
     let actors : actor_count core ≡ length ys = t.count ∙ c.take_turns-turns.ensures.actors in
     let turning = subst (λ (x : CpModel). AreTurning g.W.Member.known x o core ys) model t.crew in
     let ends : c.in_ok-ends.ends.items ≡ map (ended_of g.W.Member.known) ys = c.in_ok-ends.ensures ∙ ap (map (ended_of g.W.Member.known)) w in
-    let came = came_in_turns g.W.Member.known m o core ys c.upper-upper.ensures.sound (t.same ∙ model) workers actors turning t.over in
+    let before : length c.as_mut_slice.result.now ≡ o.workers = ap (λ (l : List (Turning _)). length l) same ∙ sym full ∙ c.in_ok-crew.ensures.count in
+    let alone : IsTrue o.log → SeesAll core.bounds = λ asked.
+    let one = (c.requires.range.log asked).workers in
+    sees_turns g.W.Member.known most_rows c.in_ok-core.core c.as_mut_slice.result.now (words_of_seed o.seed) core ys t.drawn.0 t.drawn.1 (before ∙ one)
+    (subst (λ (x : Shared). SeesAll x.bounds) (sym first) (first_sees m o.workers most_rows one)) in
+    let came = came_in_turns g.W.Member.known m o core ys c.upper-upper.ensures.sound (t.same ∙ model) workers actors turning t.over alone in
     let upper = c.upper-upper.ensures.bound in
     let lower : c.lower-lower.result ≡ core.bounds.lower = c.lower-lower.ensures in
     subst (λ (es : List Ending). CameTo m o c.upper-upper.result c.lower-lower.result es) (sym ends)

@@ -63,9 +63,6 @@ gather-requires-clause-crew g c =
     (written_back m o board c.in_ok-board.board bounds c.in_ok-bounds.bounds c.in_ok-crew.crew.len xs c.as_mut_slice.result.now c.work_all.new.crew full same c.work_all.ensures.len tables.0 tables.1 c.in_ok-board.ensures.board.1
     c.in_ok-crew.ensures.crew c.work_all.ensures.each)
 
-pub outcome_of-requires-clause-some : goal.outcome_of-requires-clause-some
-outcome_of-requires-clause-some g c = c.requires.range.some_worker
-
 pub outcome_of-requires-clause-came : goal.outcome_of-requires-clause-came
 outcome_of-requires-clause-came g c =
     let m = c.args.brief.now.model.now in
@@ -85,4 +82,4 @@ outcome_of-requires-clause-came g c =
     let came = subst (λ (n : ℕ). AreGathered m o 0 n (words.part_of seat) c.in_ok-ends.ends.items) c.in_ok-crew.ensures.count (c.in_ok-ends.ensures.gathered m o back) in
     came_to m o (words.part_of seat) c.close-upper.result.0 c.close-upper.result.1 c.in_ok-ends.ends.items came (k.whole_upper all)
     (k.whole_lower all ∙ ap (λ (x : CpModel). raised_above (words.part_of seat).raised (At (objective_start x))) model)
-    (subst (λ (x : CpModel). IsLowerBound x c.close-upper.result.1) model k.lower) k.no_worse.0 k.no_worse.1
+    (subst (λ (x : CpModel). IsLowerBound x c.close-upper.result.1) model k.lower) k.no_worse.0 k.no_worse.1 c.requires.no_log

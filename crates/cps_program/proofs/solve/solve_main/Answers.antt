@@ -1,4 +1,5 @@
 -- The answer was given out.
+use Rattle.cps_program.proofs.Logs.{gives_log}
 use Rattle.cps_program.proofs.Verdicts.{answer_exit, leaves_verified, gives_refusal, decided}
 use Rattle.cps_program.proofs.solve.solve_main.Goals as goal
 
@@ -19,6 +20,10 @@ pub write_answer-requires : goal.write_answer-requires
 write_answer-requires g c =
     let given = c.in-Ok.ensures.right in
     answer_exit _ given.0 c.in-Ok.answer given.2
+
+pub returns-in-Ok-clause-logged : goal.returns-in-Ok-clause-logged
+returns-in-Ok-clause-logged g c = λ options line.
+    gives_log _ _ _ _ c.write_answer.result.exit c.in-Ok.answer c.in-Ok.ensures.right c.write_answer.ensures.whole options line
 
 pub returns-in-Ok-clause-verified : goal.returns-in-Ok-clause-verified
 returns-in-Ok-clause-verified g c =

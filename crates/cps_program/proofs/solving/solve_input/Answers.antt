@@ -2,7 +2,7 @@
 use Rattle.cps_program.specs.Inputs.{IsInput}
 use Rattle.cps_program.specs.Answers.{Solves}
 use Rattle.cps_program.proofs.Answering.{takes, refuses}
-use Rattle.cps_program.proofs.answer.solve_input.Goals as goal
+use Rattle.cps_program.proofs.solving.solve_input.Goals as goal
 
 pub returns-in-Ok : goal.returns-in-Ok
 returns-in-Ok g c =
