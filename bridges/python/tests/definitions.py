@@ -182,16 +182,20 @@ HOLDS = {
 }
 
 
+def is_satisfied(model, constraint, values):
+    """Whether a constraint of the model holds, or is not enforced."""
+    kind = constraint.WhichOneof("constraint")
+    is_enforced = all(is_true(values, literal) for literal in constraint.enforcement_literal)
+    return not kind or not is_enforced or HOLDS[kind](model, getattr(constraint, kind), values)
+
+
 def is_solution(model, values):
     """Whether the values are in the domains, satisfy the constraints and meet the assumptions."""
     for variable, value in zip(model.variables, values, strict=True):
         if not is_in(value, variable.domain):
             return False
-    for constraint in model.constraints:
-        kind = constraint.WhichOneof("constraint")
-        is_enforced = all(is_true(values, literal) for literal in constraint.enforcement_literal)
-        if kind and is_enforced and not HOLDS[kind](model, getattr(constraint, kind), values):
-            return False
+    if not all(is_satisfied(model, constraint, values) for constraint in model.constraints):
+        return False
     return all(is_true(values, literal) for literal in model.assumptions)
 
 
