@@ -109,7 +109,7 @@ ssize_t write(int file, const void *from, size_t size) {
 """
 
 INVALID = rb"status: MODEL_INVALID\n# (text fault at byte \d+|field fault [A-Za-z]+ at byte \d+|invalid V\d+ at [a-z]+( \d+)?|input longer than 67108864 bytes)\n"
-ANSWER = rb"status: (OPTIMAL|FEASIBLE|INFEASIBLE|UNKNOWN)\n(solution: -?\d+\n|objective_value: -?\d+\n|best_objective_bound: -?\d+\n|sufficient_assumptions_for_infeasibility: -?\d+\n)*"
+ANSWER = rb"status: (OPTIMAL|FEASIBLE|INFEASIBLE|UNKNOWN)\n(solution: -?\d+\n|objective_value: -?\d+\n|best_objective_bound: -?\d+\n|sufficient_assumptions_for_infeasibility: -?\d+\n)*(%log\n([seotal]( \S+)*\n)*%end\n)?"
 USAGE = b"usage: cpsolve solve|validate|print|gen|demo|check\n"
 
 BOOLEAN = "variables { domain: [0, 1] }\n"
@@ -168,12 +168,13 @@ MODELS = {
 COMMANDS = {
     "solve alone": ["solve", "--workers", "1"],
     "solve in turns": ["solve", "--interleave"],
+    "solve with a log": ["solve", "--workers", "1", "--log"],
     "print": ["print"],
     "validate": ["validate"],
 }
 
 # Runs of which each growth is refused, however many there are.
-WHOLE = {("solve in turns", "different"), ("print", "ten"), ("print", "ten, freely spelled")}
+WHOLE = {("solve in turns", "different"), ("solve with a log", "different"), ("print", "ten"), ("print", "ten, freely spelled")}
 
 
 class Runs:
@@ -300,7 +301,7 @@ def random_texts(runs, count, seed):
     texts = [text.encode() for text in MODELS.values()]
     for number in range(count):
         data = edited(draws, draws.choice(texts)) if number % 4 else bytes(draws.randrange(256) for _ in range(draws.randint(0, 200)))
-        words = draws.choice([["validate"], ["print"], ["solve", "--workers", "1", "--conflicts", "200"], ["solve", "--interleave", "--conflicts", "50"], ["solve", "--conflicts", "50"]])
+        words = draws.choice([["validate"], ["print"], ["solve", "--workers", "1", "--conflicts", "200"], ["solve", "--workers", "1", "--conflicts", "50", "--log"], ["solve", "--interleave", "--conflicts", "50"], ["solve", "--conflicts", "50"]])
         ran = runs.run(words, data)
         runs.note("random text", is_answer(words, ran), "%s of text %d: %s" % (words[0], number, show(ran)))
 
